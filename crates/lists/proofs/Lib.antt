@@ -1,0 +1,4 @@
+pub mod Tab
+pub mod Search
+pub mod Placed
+pub mod Cond

@@ -1,0 +1,3 @@
+pub mod Tab
+pub mod Search
+pub mod Placed

@@ -1,0 +1,35 @@
+-- Reply numbers.
+use Prim.Native.Nat.{ℕ}
+use Rattle.reply.specs.declared.Reply.{Reply}
+use Rattle.reply.specs.declared.Reply.the-variants.{Done, NoLine, BankLength, BufferLength, NotLawful, NoMode, LoresWithTiles, NextWithPlus, FarOffset, NoRegister, OutOfBounds, TooManyTiles, PackingBounds, NotRecord}
+
+-- the number of each row of the table
+abbrev pub replyNumber : Reply → ℕ
+-- done
+replyNumber Done = 0
+-- line above 255
+replyNumber NoLine = 1
+-- a bank not 16,384 long
+replyNumber BankLength = 2
+-- another lent buffer of the wrong length
+replyNumber BufferLength = 3
+-- state not lawful
+replyNumber NotLawful = 4
+-- ULA on, LoRes off, no such mode
+replyNumber NoMode = 5
+-- LoRes and tilemap both on
+replyNumber LoresWithTiles = 6
+-- ULANext and ULAplus both on
+replyNumber NextWithPlus = 7
+-- tilemap on, X offset at or above W
+replyNumber FarOffset = 8
+-- no such register or port, or not that way
+replyNumber NoRegister = 9
+-- value outside its bounds
+replyNumber OutOfBounds = 10
+-- no map naming at most the number allowed draws the picture
+replyNumber TooManyTiles = 11
+-- allowed above 256, or offset above 15
+replyNumber PackingBounds = 12
+-- bytes are not a record of a lawful state
+replyNumber NotRecord = 13

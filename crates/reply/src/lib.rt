@@ -1,0 +1,42 @@
+// The answers of every call: a case for each row of document 01's reply table.
+ghost use mathlib.Core.Path.{_≡_};
+ghost use Rattle.reply.specs.Reply.{replyNumber};
+
+pub enum Reply {
+    Done,
+    NoLine,
+    BankLength,
+    BufferLength,
+    NotLawful,
+    NoMode,
+    LoresWithTiles,
+    NextWithPlus,
+    FarOffset,
+    NoRegister,
+    OutOfBounds,
+    TooManyTiles,
+    PackingBounds,
+    NotRecord,
+}
+
+// The paper's number of a reply.
+pub fn number(r: Reply) -> u8
+    ensures { λ n. ⌜ n ≡ replyNumber r ⌝ }
+{
+    match r {
+        Reply::Done => 0,
+        Reply::NoLine => 1,
+        Reply::BankLength => 2,
+        Reply::BufferLength => 3,
+        Reply::NotLawful => 4,
+        Reply::NoMode => 5,
+        Reply::LoresWithTiles => 6,
+        Reply::NextWithPlus => 7,
+        Reply::FarOffset => 8,
+        Reply::NoRegister => 9,
+        Reply::OutOfBounds => 10,
+        Reply::TooManyTiles => 11,
+        Reply::PackingBounds => 12,
+        Reply::NotRecord => 13,
+    }
+}

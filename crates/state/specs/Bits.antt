@@ -1,0 +1,55 @@
+-- The state and its registers: what a bit of a stored byte means.
+use Prim.Native.Nat.{ℕ, _/_, _%_}
+use mathlib.Core.Bool.{Bool}
+use lib.Dec.{leb, ltb, eqb}
+use Rattle.state.specs.declared.Ula.{Ula}
+use Rattle.state.specs.declared.Tiles.{Tiles}
+use Rattle.state.specs.declared.Palette.{Palette}
+
+-- $08: bit 2 allows Timex modes
+abbrev pub timexOn : Ula → Bool
+timexOn u = eqb (u .peripheral / 4 % 2) 1
+
+-- $15: bit 7 LoRes
+abbrev pub loresOn : Ula → Bool
+loresOn u = leb 128 (u .layers)
+
+-- $43: bits 6-4 choose the palette written
+abbrev pub choiceOf : ℕ → ℕ
+choiceOf control = control / 16 % 8
+
+-- $43: bit 7 keeps the palette index where it is
+abbrev pub indexStays : ℕ → Bool
+indexStays control = leb 128 control
+
+-- $43: bit 1 the ULA palette shown, the second where it is set
+abbrev pub ulaSecondShown : Palette → Bool
+ulaSecondShown p = eqb (p .control / 2 % 2) 1
+
+-- $43: bit 0 ULANext
+abbrev pub nextOn : Palette → Bool
+nextOn p = eqb (p .control % 2) 1
+
+-- $68: bit 7 ULA off
+abbrev pub ulaOn : Ula → Bool
+ulaOn u = ltb (u .control) 128
+
+-- $68: bit 0 stencil
+abbrev pub stencilSet : Ula → Bool
+stencilSet u = eqb (u .control % 2) 1
+
+-- $6B: bit 7 tilemap on
+abbrev pub tilemapOn : Tiles → Bool
+tilemapOn t = leb 128 (t .control)
+
+-- $6B: bit 6 80 columns
+abbrev pub columns80 : Tiles → Bool
+columns80 t = eqb (t .control / 64 % 2) 1
+
+-- $6B: bit 5 one byte an entry, with $6C
+abbrev pub oneByteEntries : Tiles → Bool
+oneByteEntries t = eqb (t .control / 32 % 2) 1
+
+-- $6B: bit 4 the tilemap palette shown, the second where it is set
+abbrev pub tileSecondShown : Tiles → Bool
+tileSecondShown t = eqb (t .control / 16 % 2) 1

@@ -1,0 +1,6 @@
+pub mod Bits
+pub mod Lawful
+pub mod Answer
+pub mod With
+pub mod Reset
+pub mod Frame

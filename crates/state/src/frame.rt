@@ -1,0 +1,34 @@
+// The next frame.
+ghost use mathlib.Core.Path.{_≡_};
+ghost use Rattle.state.specs.Frame.{advanced, nextFrame};
+use crate::Answer;
+use crate::State;
+use crate::lawful;
+use reply::Reply;
+
+fn advance(s: State) -> State
+    ensures { λ r. ⌜ r ≡ advanced s ⌝ }
+{
+    let next = std::num::wrapping_add_u8(s.frame, 1);
+    let mut t = s;
+    t.frame = next;
+    t
+}
+
+// The state one frame on, or reply 4 and the same state.
+pub fn next_frame(s: State) -> Answer
+    ensures { λ r. ⌜ r ≡ nextFrame s ⌝ }
+{
+    if lawful(s) {
+        let t = advance(s);
+        Answer {
+            reply: Reply::Done,
+            state: t,
+        }
+    } else {
+        Answer {
+            reply: Reply::NotLawful,
+            state: s,
+        }
+    }
+}
