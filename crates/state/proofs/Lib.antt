@@ -1,1 +1,2 @@
-mod Colours
+pub mod Colours
+pub mod Claims

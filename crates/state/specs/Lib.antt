@@ -4,3 +4,4 @@ pub mod Answer
 pub mod With
 pub mod Reset
 pub mod Frame
+pub mod Claims

@@ -19,8 +19,8 @@ fn advance(s: State) -> State
 pub fn next_frame(s: State) -> Answer
     ensures { λ r. ⌜ r ≡ nextFrame s ⌝ }
 {
+    let t = advance(s);
     if lawful(s) {
-        let t = advance(s);
         Answer {
             reply: Reply::Done,
             state: t,

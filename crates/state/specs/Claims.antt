@@ -1,0 +1,20 @@
+-- What no single call states of lawful states.
+use Prim.Native.Nat.{_<_}
+use mathlib.Core.Path.{_≡_}
+use mathlib.Core.Bool.{true}
+use Rattle.state.specs.declared.State.{State}
+use Rattle.state.specs.Lawful.{lawfulState}
+use Rattle.state.specs.Reset.{resetState}
+use Rattle.state.specs.Frame.{nextFrame, framesOn}
+
+-- the reset state is lawful
+abbrev pub ResetLawful : Type 0
+ResetLawful = lawfulState resetState ≡ true
+
+-- the next frame of a lawful state is lawful
+abbrev pub FrameLawful : Type 0
+FrameLawful = (s : State) → lawfulState s ≡ true → lawfulState (nextFrame s .state) ≡ true
+
+-- 256 frames bring a lawful state back; its frame number is a byte
+abbrev pub FramesReturn : Type 0
+FramesReturn = (s : State) → lawfulState s ≡ true → s .frame < 256 → framesOn 256 s ≡ s
