@@ -1,174 +1,82 @@
-// The reset state with one field changed: at the edge of its bound, and one past it.
-use state::State;
-
-fn print_edge(label: &[u8], s: State) {
-    report::word(label);
-    if state::lawful(s) {
-        report::word(b" lawful\n");
-    } else {
-        report::word(b" not lawful\n");
-    }
-}
+// Each bound at its edge and one past it.
+use crate::judged;
 
 fn print_ula_edges() {
-    let s = state::reset();
-    let mut t = s;
-    t.ula.y = 191;
-    print_edge(b"$33 191", t);
-    t.ula.y = 192;
-    print_edge(b"$33 192", t);
-    let mut t = s;
-    t.ula.control = 193;
-    print_edge(b"$68 193", t);
-    t.ula.control = 2;
-    print_edge(b"$68 2", t);
-    t.ula.control = 32;
-    print_edge(b"$68 32", t);
+    judged::y(b"$33 191", 191);
+    judged::y(b"$33 192", 192);
+    judged::control(b"$68 193", 193);
+    judged::control(b"$68 2", 2);
+    judged::control(b"$68 32", 32);
 }
 
 fn print_mask_edges() {
-    let s = state::reset();
-    let mut t = s;
-    t.palette.mask = 0;
-    print_edge(b"$42 0", t);
-    t.palette.mask = 1;
-    print_edge(b"$42 1", t);
-    t.palette.mask = 3;
-    print_edge(b"$42 3", t);
-    t.palette.mask = 5;
-    print_edge(b"$42 5", t);
-    t.palette.mask = 7;
-    print_edge(b"$42 7", t);
-    t.palette.mask = 15;
-    print_edge(b"$42 15", t);
-    t.palette.mask = 31;
-    print_edge(b"$42 31", t);
-    t.palette.mask = 63;
-    print_edge(b"$42 63", t);
-    t.palette.mask = 127;
-    print_edge(b"$42 127", t);
-    t.palette.mask = 254;
-    print_edge(b"$42 254", t);
-    t.palette.mask = 255;
-    print_edge(b"$42 255", t);
+    judged::mask(b"$42 0", 0);
+    judged::mask(b"$42 1", 1);
+    judged::mask(b"$42 3", 3);
+    judged::mask(b"$42 5", 5);
+    judged::mask(b"$42 7", 7);
+    judged::mask(b"$42 15", 15);
+    judged::mask(b"$42 31", 31);
+    judged::mask(b"$42 63", 63);
+    judged::mask(b"$42 127", 127);
+    judged::mask(b"$42 254", 254);
+    judged::mask(b"$42 255", 255);
 }
 
 fn print_choice_edges() {
-    let s = state::reset();
-    let mut t = s;
-    t.palette.control = 0;
-    print_edge(b"$43 0", t);
-    t.palette.control = 16;
-    print_edge(b"$43 16", t);
-    t.palette.control = 32;
-    print_edge(b"$43 32", t);
-    t.palette.control = 48;
-    print_edge(b"$43 48", t);
-    t.palette.control = 64;
-    print_edge(b"$43 64", t);
-    t.palette.control = 80;
-    print_edge(b"$43 80", t);
-    t.palette.control = 96;
-    print_edge(b"$43 96", t);
-    t.palette.control = 112;
-    print_edge(b"$43 112", t);
-    t.palette.control = 143;
-    print_edge(b"$43 143", t);
+    judged::choice(b"$43 0", 0);
+    judged::choice(b"$43 16", 16);
+    judged::choice(b"$43 32", 32);
+    judged::choice(b"$43 48", 48);
+    judged::choice(b"$43 64", 64);
+    judged::choice(b"$43 80", 80);
+    judged::choice(b"$43 96", 96);
+    judged::choice(b"$43 112", 112);
+    judged::choice(b"$43 143", 143);
 }
 
 fn print_tiles_edges() {
-    let s = state::reset();
-    let mut t = s;
-    t.tiles.transparent = 15;
-    print_edge(b"$4C 15", t);
-    t.tiles.transparent = 16;
-    print_edge(b"$4C 16", t);
-    let mut t = s;
-    t.tiles.control = 240;
-    print_edge(b"$6B 240", t);
-    t.tiles.control = 241;
-    print_edge(b"$6B 241", t);
-    t.tiles.control = 8;
-    print_edge(b"$6B 8", t);
-    let mut t = s;
-    t.tiles.xhigh = 3;
-    print_edge(b"$2F 3", t);
-    t.tiles.xhigh = 4;
-    print_edge(b"$2F 4", t);
-    let mut t = s;
-    t.tiles.map = 63;
-    print_edge(b"$6E 63", t);
-    t.tiles.map = 64;
-    print_edge(b"$6E 64", t);
-    let mut t = s;
-    t.tiles.definitions = 63;
-    print_edge(b"$6F 63", t);
-    t.tiles.definitions = 64;
-    print_edge(b"$6F 64", t);
+    judged::transparent(b"$4C 15", 15);
+    judged::transparent(b"$4C 16", 16);
+    judged::tilemap(b"$6B 240", 240);
+    judged::tilemap(b"$6B 241", 241);
+    judged::tilemap(b"$6B 8", 8);
+    judged::xhigh(b"$2F 3", 3);
+    judged::xhigh(b"$2F 4", 4);
+    judged::map(b"$6E 63", 63);
+    judged::map(b"$6E 64", 64);
+    judged::definitions(b"$6F 63", 63);
+    judged::definitions(b"$6F 64", 64);
 }
 
 fn print_rest_edges() {
-    let s = state::reset();
-    let mut t = s;
-    t.turns.ula = 3;
-    print_edge(b"ULA turn 3", t);
-    t.turns.ula = 4;
-    print_edge(b"ULA turn 4", t);
-    let mut t = s;
-    t.turns.tiles = 3;
-    print_edge(b"tilemap turn 3", t);
-    t.turns.tiles = 4;
-    print_edge(b"tilemap turn 4", t);
-    let mut t = s;
-    t.ports.border = 7;
-    print_edge(b"border 7", t);
-    t.ports.border = 8;
-    print_edge(b"border 8", t);
-    let mut t = s;
-    t.ports.select = 127;
-    print_edge(b"$BF3B 127", t);
-    t.ports.select = 128;
-    print_edge(b"$BF3B 128", t);
-    let mut t = s;
-    t.ports.timex = 255;
-    print_edge(b"$FF 255", t);
+    judged::ula_turn(b"ULA turn 3", 3);
+    judged::ula_turn(b"ULA turn 4", 4);
+    judged::tilemap_turn(b"tilemap turn 3", 3);
+    judged::tilemap_turn(b"tilemap turn 4", 4);
+    judged::border(b"border 7", 7);
+    judged::border(b"border 8", 8);
+    judged::select(b"$BF3B 127", 127);
+    judged::select(b"$BF3B 128", 128);
+    judged::timex(b"$FF 255", 255);
 }
 
 fn print_palette_edges() {
-    let s = state::reset();
-    let mut t = s;
-    t.ulafirst[255] = 511;
-    print_edge(b"first ULA palette 511", t);
-    t.ulafirst[255] = 512;
-    print_edge(b"first ULA palette 512", t);
-    let mut t = s;
-    t.ulasecond[0] = 511;
-    print_edge(b"second ULA palette 511", t);
-    t.ulasecond[0] = 512;
-    print_edge(b"second ULA palette 512", t);
-    let mut t = s;
-    t.tilefirst[128] = 511;
-    print_edge(b"first tilemap palette 511", t);
-    t.tilefirst[128] = 512;
-    print_edge(b"first tilemap palette 512", t);
-    let mut t = s;
-    t.tilesecond[255] = 511;
-    print_edge(b"second tilemap palette 511", t);
-    t.tilesecond[255] = 512;
-    print_edge(b"second tilemap palette 512", t);
+    judged::ulafirst(b"first ULA palette 511", 511);
+    judged::ulafirst(b"first ULA palette 512", 512);
+    judged::ulasecond(b"second ULA palette 511", 511);
+    judged::ulasecond(b"second ULA palette 512", 512);
+    judged::tilefirst(b"first tilemap palette 511", 511);
+    judged::tilefirst(b"first tilemap palette 512", 512);
+    judged::tilesecond(b"second tilemap palette 511", 511);
+    judged::tilesecond(b"second tilemap palette 512", 512);
 }
 
 fn print_held_edges() {
-    let s = state::reset();
-    let mut t = s;
-    t.palette.half = 0;
-    print_edge(b"none held, byte 0", t);
-    t.palette.half = 1;
-    print_edge(b"none held, byte 1", t);
-    t.palette.held = true;
-    print_edge(b"held, byte 1", t);
-    t.palette.half = 255;
-    print_edge(b"held, byte 255", t);
+    judged::half(b"none held, byte 0", false, 0);
+    judged::half(b"none held, byte 1", false, 1);
+    judged::half(b"held, byte 1", true, 1);
+    judged::half(b"held, byte 255", true, 255);
 }
 
 pub fn print_edges() {

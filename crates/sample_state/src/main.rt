@@ -1,6 +1,7 @@
 // Screen values of a dozen colours, the reset state's fields, and what is lawful at each bound's edge and one past it.
 mod edges;
 mod fields;
+mod judged;
 
 use reply::number;
 
