@@ -1,0 +1,20 @@
+-- A dot is its high byte and then its low one.
+use mathlib.Core.Path.{_∙_}
+use borrow.Author.Needs.{needs}
+use Rattle.sums.proofs.add_dot.Statement.{statement}
+use Rattle.sums.proofs.add_dot.Tie as tie
+
+wide32-requires : tie.Need-wide32-requires
+wide32-requires c κs = search needs
+
+add-requires : tie.Need-add-requires
+add-requires c κs = search needs
+
+add-requires-2 : tie.Need-add-requires-2
+add-requires-2 c κs = search needs
+
+returns : tie.Need-returns
+returns c = (c .add2 .ensures .0 ∙ rw (c .before .add .ensures .0, c .before .before .wide32 .ensures .0), c .add2 .ensures .1)
+
+pub add-dot-spec : {M : Type 1} → statement M
+add-dot-spec = tie.close (tie.spec wide32-requires add-requires add-requires-2 returns)
