@@ -1,0 +1,24 @@
+// Whole files by name, for the programs. No contract can say what a file holds.
+ghost use Prim.Native.Nat.{_≤_};
+ghost use lib.ListN.{length};
+ghost use Rattle.files.specs.Read.{within};
+
+// How many bytes of a file are in the buffer, or that it cannot be opened.
+pub enum Read {
+    Bytes(usize),
+    Missing,
+}
+
+// Reads a file into a buffer, as far as either goes: a file that must have n bytes is read into a buffer of n + 1, where a
+// longer one shows.
+pub fn read_file(path: &[u8], buffer: &mut [u8]) -> Read
+    ensures { λ r. ⌜ within r (length (now (buffer .exit))) ⌝ }
+{
+    let fd = os::open_read(path);
+    if fd < 0 {
+        return Read::Missing;
+    }
+    let n = io::read_full(fd, buffer);
+    libc::close(fd);
+    Read::Bytes(n)
+}
