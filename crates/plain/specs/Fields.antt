@@ -1,0 +1,64 @@
+-- A group of registers with one of them replaced.
+use Prim.Native.Nat.{ℕ}
+use Rattle.state.specs.declared.Ula.{Ula}
+use Rattle.state.specs.declared.Tiles.{Tiles}
+
+-- $14
+abbrev pub ulaWithTransparent : Ula → ℕ → Ula
+ulaWithTransparent u v = record { transparent = v; layers = u .layers; peripheral = u .peripheral; fallback = u .fallback; control = u .control; x = u .x; y = u .y }
+
+-- $15
+abbrev pub ulaWithLayers : Ula → ℕ → Ula
+ulaWithLayers u v = record { transparent = u .transparent; layers = v; peripheral = u .peripheral; fallback = u .fallback; control = u .control; x = u .x; y = u .y }
+
+-- $08
+abbrev pub ulaWithPeripheral : Ula → ℕ → Ula
+ulaWithPeripheral u v = record { transparent = u .transparent; layers = u .layers; peripheral = v; fallback = u .fallback; control = u .control; x = u .x; y = u .y }
+
+-- $4A
+abbrev pub ulaWithFallback : Ula → ℕ → Ula
+ulaWithFallback u v = record { transparent = u .transparent; layers = u .layers; peripheral = u .peripheral; fallback = v; control = u .control; x = u .x; y = u .y }
+
+-- $68
+abbrev pub ulaWithControl : Ula → ℕ → Ula
+ulaWithControl u v = record { transparent = u .transparent; layers = u .layers; peripheral = u .peripheral; fallback = u .fallback; control = v; x = u .x; y = u .y }
+
+-- $32
+abbrev pub ulaWithX : Ula → ℕ → Ula
+ulaWithX u v = record { transparent = u .transparent; layers = u .layers; peripheral = u .peripheral; fallback = u .fallback; control = u .control; x = v; y = u .y }
+
+-- $33
+abbrev pub ulaWithY : Ula → ℕ → Ula
+ulaWithY u v = record { transparent = u .transparent; layers = u .layers; peripheral = u .peripheral; fallback = u .fallback; control = u .control; x = u .x; y = v }
+
+-- $4C
+abbrev pub tilesWithTransparent : Tiles → ℕ → Tiles
+tilesWithTransparent t v = record { transparent = v; control = t .control; attribute = t .attribute; xhigh = t .xhigh; xlow = t .xlow; y = t .y; map = t .map; definitions = t .definitions }
+
+-- $6B
+abbrev pub tilesWithControl : Tiles → ℕ → Tiles
+tilesWithControl t v = record { transparent = t .transparent; control = v; attribute = t .attribute; xhigh = t .xhigh; xlow = t .xlow; y = t .y; map = t .map; definitions = t .definitions }
+
+-- $6C
+abbrev pub tilesWithAttribute : Tiles → ℕ → Tiles
+tilesWithAttribute t v = record { transparent = t .transparent; control = t .control; attribute = v; xhigh = t .xhigh; xlow = t .xlow; y = t .y; map = t .map; definitions = t .definitions }
+
+-- $2F
+abbrev pub tilesWithXHigh : Tiles → ℕ → Tiles
+tilesWithXHigh t v = record { transparent = t .transparent; control = t .control; attribute = t .attribute; xhigh = v; xlow = t .xlow; y = t .y; map = t .map; definitions = t .definitions }
+
+-- $30
+abbrev pub tilesWithXLow : Tiles → ℕ → Tiles
+tilesWithXLow t v = record { transparent = t .transparent; control = t .control; attribute = t .attribute; xhigh = t .xhigh; xlow = v; y = t .y; map = t .map; definitions = t .definitions }
+
+-- $31
+abbrev pub tilesWithY : Tiles → ℕ → Tiles
+tilesWithY t v = record { transparent = t .transparent; control = t .control; attribute = t .attribute; xhigh = t .xhigh; xlow = t .xlow; y = v; map = t .map; definitions = t .definitions }
+
+-- $6E
+abbrev pub tilesWithMap : Tiles → ℕ → Tiles
+tilesWithMap t v = record { transparent = t .transparent; control = t .control; attribute = t .attribute; xhigh = t .xhigh; xlow = t .xlow; y = t .y; map = v; definitions = t .definitions }
+
+-- $6F
+abbrev pub tilesWithDefinitions : Tiles → ℕ → Tiles
+tilesWithDefinitions t v = record { transparent = t .transparent; control = t .control; attribute = t .attribute; xhigh = t .xhigh; xlow = t .xlow; y = t .y; map = t .map; definitions = v }

@@ -1,0 +1,69 @@
+// Writes by register number and by port.
+ghost use mathlib.Core.Path.{_≡_};
+ghost use Rattle.answers.specs.Rows.{writeBy};
+ghost use Rattle.registers.specs.Registers.{registerWrites, writeRegister, writePort};
+use answers::no_write;
+use reply::Reply;
+use state::Answer;
+use state::State;
+use state::lawful;
+
+// What a write does to the register of a number.
+fn write_numbered(s: State, number: u8, value: u8) -> Answer
+    ensures { λ r. ⌜ r ≡ writeBy registerWrites s number value ⌝ }
+{
+    match number {
+        0x08 => plain::write_peripheral(s, value),
+        0x14 => plain::write_transparent(s, value),
+        0x15 => plain::write_layers(s, value),
+        0x1A => clips::write_ula_clip(s, value),
+        0x1B => clips::write_tile_clip(s, value),
+        0x1C => clips::write_turns(s, value),
+        0x2F => plain::write_tile_x_high(s, value),
+        0x30 => plain::write_tile_x_low(s, value),
+        0x31 => plain::write_tile_y(s, value),
+        0x32 => plain::write_ula_x(s, value),
+        0x33 => plain::write_ula_y(s, value),
+        0x40 => palettes::write_index(s, value),
+        0x41 => palettes::write_eight(s, value),
+        0x42 => palettes::write_mask(s, value),
+        0x43 => palettes::write_control(s, value),
+        0x44 => palettes::write_nine(s, value),
+        0x4A => plain::write_fallback(s, value),
+        0x4C => plain::write_tile_transparent(s, value),
+        0x68 => plain::write_ula_control(s, value),
+        0x6B => plain::write_tile_control(s, value),
+        0x6C => plain::write_tile_attribute(s, value),
+        0x6E => plain::write_map(s, value),
+        0x6F => plain::write_definitions(s, value),
+        _ => no_write(s),
+    }
+}
+
+// The state after a write to a register, or the reply that refuses it and the same state.
+pub fn write_register(s: State, number: u8, value: u8) -> Answer
+    ensures { λ r. ⌜ r ≡ writeRegister s number value ⌝ }
+{
+    if lawful(s) {
+        write_numbered(s, number, value)
+    } else {
+        Answer {
+            reply: Reply::NotLawful,
+            state: s,
+        }
+    }
+}
+
+// The same by port.
+pub fn write_port(s: State, port: u16, value: u8) -> Answer
+    ensures { λ r. ⌜ r ≡ writePort s port value ⌝ }
+{
+    if lawful(s) {
+        ports::write_at(s, port, value)
+    } else {
+        Answer {
+            reply: Reply::NotLawful,
+            state: s,
+        }
+    }
+}
