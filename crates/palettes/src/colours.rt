@@ -1,12 +1,23 @@
-// Colours, written as eight bits at once or as nine bits in two writes.
+// The index, and colours written as eight bits at once or as nine bits in two writes.
 ghost use mathlib.Core.Path.{_≡_};
-ghost use Rattle.palettes.specs.Palettes.{colourStored, nextIndex, colourPut, eightWritten, nineFirst, nineSecond, nineWritten, colourAt, eightRead, nineRead};
+ghost use Rattle.palettes.specs.Palettes.{indexWritten, colourStored, nextIndex, colourPut, eightWritten, nineFirst, nineSecond, nineWritten, colourAt, eightRead, nineRead};
 use answers::accept;
 use answers::bounded;
 use colour::widen;
 use lists::wide16;
 use state::Answer;
 use state::State;
+
+// $40
+pub fn write_index(s: State, value: u8) -> Answer
+    ensures { λ r. ⌜ r ≡ indexWritten s value ⌝ }
+{
+    let mut t = s;
+    t.palette.index = value;
+    t.palette.held = false;
+    t.palette.half = 0;
+    accept(t)
+}
 
 fn store_colour(s: State, choice: u8, index: u8, colour: u16) -> State
     ensures { λ r. ⌜ r ≡ colourStored s choice index colour ⌝ }

@@ -1,23 +1,11 @@
-// The index, the ink mask and the control register.
+// The ink mask and the control register.
 ghost use mathlib.Core.Path.{_≡_};
-ghost use Rattle.palettes.specs.Palettes.{indexWritten, maskWritten, controlWritten};
-use answers::accept;
+ghost use Rattle.palettes.specs.Palettes.{maskWritten, controlWritten};
 use answers::bounded;
 use state::Answer;
 use state::State;
 use state::is_choice;
 use state::is_mask;
-
-// $40
-pub fn write_index(s: State, value: u8) -> Answer
-    ensures { λ r. ⌜ r ≡ indexWritten s value ⌝ }
-{
-    let mut t = s;
-    t.palette.index = value;
-    t.palette.held = false;
-    t.palette.half = 0;
-    accept(t)
-}
 
 // $42
 pub fn write_mask(s: State, value: u8) -> Answer

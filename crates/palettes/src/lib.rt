@@ -5,7 +5,7 @@ mod control;
 pub use colours::read_eight;
 pub use colours::read_nine;
 pub use colours::write_eight;
+pub use colours::write_index;
 pub use colours::write_nine;
 pub use control::write_control;
-pub use control::write_index;
 pub use control::write_mask;

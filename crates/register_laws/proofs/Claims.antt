@@ -1,0 +1,325 @@
+-- The proofs of the statements in specs/Claims.antt, each under its statement's name.
+use mathlib.Core.Path.{_≡_, refl, sym, ap, _∙_}
+use mathlib.Core.List.{List, [], _∷_}
+use mathlib.Core.Bool.{Bool, true, false, cond}
+use Prim.Native.Nat.{ℕ, zero, suc, _+_, _*_, _/_, _%_, _≤_, _<_}
+use native.Mathlib.Omega.{arith}
+use lib.ListN.{length, set, getD}
+use lib.Seq.{getD-set-same}
+use lib.Dec.{leb, ltb, eqb}
+use borrow.Author.Tests.{le-leb, lt-leb, eq-eqb, ne-eqb, leb-true}
+use Rattle.lists.proofs.Cond.{if-true, if-false}
+use Rattle.reply.specs.declared.Reply.{Reply}
+use Rattle.reply.specs.declared.Reply.the-variants.{Done, NotLawful, NoRegister, OutOfBounds}
+use Rattle.state.specs.declared.State.{State}
+use Rattle.state.specs.declared.Palette.{Palette}
+use Rattle.state.specs.declared.Answer.{Answer}
+use Rattle.state.specs.Answer.{done, refused}
+use Rattle.state.specs.Bits.{timexOn}
+use Rattle.state.specs.Lawful.{isMask, isChoice, lawfulState}
+use Rattle.state.specs.With.{withPalette, withTurns}
+use Rattle.answers.specs.declared.Reading.{Reading}
+use Rattle.answers.specs.Answers.{within, given, unread, writeLawful}
+use Rattle.answers.specs.Rows.{WriteRow, writeBy, readBy}
+use Rattle.clips.specs.Clips.{place, nextTurn, ulaClipWritten, tileClipWritten, restarted}
+use Rattle.palettes.specs.Palettes.{paletteAt, withPaletteAt, written, nextIndex, colourAt, colourStored, indexWritten, eightWritten, controlWritten}
+use Rattle.ports.specs.Ports.{modeGroup, plusWritten, plusRead, portWrites, portReads}
+use Rattle.registers.specs.Registers.{registerWrites, registerReads, writeRegister, writePort, readRegister, readPort}
+use Rattle.register_laws.specs.Bounds.{Typed}
+use Rattle.register_laws.specs.Claims.{Each, StaysLawful, LawfulStays, HandsBack, RefusedSame, ReadsBack, PortsReadBack, NineTwice, NineOnce, HalfDropped, SameHalf, HalfKept, At, fourWrites, SetsFour, FourClipWrites, TurnsRestarted, ClipReads, TurnsReads, ColourReads, ModeReads, WriteOnly}
+use Rattle.register_laws.proofs.Parts.{Parts, either, join, split, apart, colour-at, palette-at}
+use Rattle.register_laws.proofs.Rows.{Sound, by-row, by-rows}
+use Rattle.register_laws.proofs.Effects.{registers-sound, ports-sound, ula-turn, tile-turn, ula-clip, tile-clip, nine}
+
+-- ---- every write
+
+module _ (rows : List WriteRow) (sound : Each (λ r. Sound (r .effect)) rows) (s : State) (n v : ℕ) where
+  written-parts : v < 256 → Parts s → Parts (writeLawful s (writeBy rows s n v) .state)
+  written-parts b p =
+      either (λ a. Parts (a .state)) (lawfulState s) (writeBy rows s n v) (refused NotLawful s)
+      (by-rows (λ a. Parts (a .state)) rows s n v p (λ f g. g .kept s v b p) sound) p
+
+  stays : v < 256 → Typed s → lawfulState s ≡ true
+      → (lawfulState (writeLawful s (writeBy rows s n v) .state) ≡ true) × Typed (writeLawful s (writeBy rows s n v) .state)
+  stays b z h = let q = written-parts b (split s h z) in (join (writeLawful s (writeBy rows s n v) .state) q, q .2)
+
+  hands-back : (writeLawful s (writeBy rows s n v) .reply ≡ Done → ⊥) → writeLawful s (writeBy rows s n v) .state ≡ s
+  hands-back =
+      either (λ a. (a .reply ≡ Done → ⊥) → a .state ≡ s) (lawfulState s) (writeBy rows s n v) (refused NotLawful s)
+      (by-rows (λ a. (a .reply ≡ Done → ⊥) → a .state ≡ s) rows s n v (λ h. refl) (λ f g. g .clean s v) sound) (λ h. refl)
+
+pub lawfulStays : LawfulStays
+unfolding LawfulStays writeRegister writePort
+lawfulStays = (stays registerWrites registers-sound, stays portWrites ports-sound)
+
+pub refusedSame : RefusedSame
+unfolding RefusedSame writeRegister writePort
+refusedSame = (hands-back registerWrites registers-sound, hands-back portWrites ports-sound)
+
+-- ---- a lawful state's writes and reads go by the rows
+
+if-lawful : {A : Type 0} (s : State) (x y : A) → lawfulState s ≡ true → cond (lawfulState s) x y ≡ x
+if-lawful s x y h = if-true (lawfulState s) x y h
+
+write-row : (s : State) (n v : ℕ) → lawfulState s ≡ true → writeRegister s n v ≡ writeBy registerWrites s n v
+unfolding writeRegister
+write-row s n v h = if-lawful s (writeBy registerWrites s n v) (refused NotLawful s) h
+
+port-row : (s : State) (n v : ℕ) → lawfulState s ≡ true → writePort s n v ≡ writeBy portWrites s n v
+unfolding writePort
+port-row s n v h = if-lawful s (writeBy portWrites s n v) (refused NotLawful s) h
+
+read-row : (s : State) (n : ℕ) → lawfulState s ≡ true → readRegister s n ≡ readBy registerReads s n
+unfolding readRegister
+read-row s n h = if-lawful s (readBy registerReads s n) (unread NotLawful) h
+
+read-port-row : (s : State) (n : ℕ) → lawfulState s ≡ true → readPort s n ≡ readBy portReads s n
+unfolding readPort
+read-port-row s n h = if-lawful s (readBy portReads s n) (unread NotLawful) h
+
+-- ---- reading back
+
+not-done : {A : Type 0} (r : Reply) → r ≡ NotLawful → r ≡ Done → A
+not-done r e h = let z : _≡_ {A = ℕ} 0 1 = cc in absurd (omega arith)
+
+-- an accepted write that is judged has changed the state
+accepted : (ok : Bool) (t s : State) → within ok t s .reply ≡ Done → within ok t s .state ≡ t
+accepted true t s h = refl
+accepted false t s h = let z : _≡_ {A = ℕ} 0 1 = cc in absurd (omega arith)
+
+module _ (s : State) (v : ℕ) (b : v < 256) (z : Typed s) (h : lawfulState s ≡ true) where
+  back : (n k : ℕ) → (writeBy registerWrites s n v .reply ≡ Done → readBy registerReads (writeBy registerWrites s n v .state) n ≡ given k)
+      → writeRegister s n v .reply ≡ Done → readRegister (writeRegister s n v .state) n ≡ given k
+  unfolding LawfulStays
+  back n k f d =
+      let w = write-row s n v h in
+      read-row (writeRegister s n v .state) n (lawfulStays .0 s n v b z h .0)
+      ∙ ap (λ (a : Answer). readBy registerReads (a .state) n) w
+      ∙ f (sym (ap (λ (a : Answer). a .reply) w) ∙ d)
+
+  -- a judged row, whose changed state t reads as k
+  judged-back : (n k : ℕ) (ok : Bool) (t : State) → writeBy registerWrites s n v ≡ within ok t s → readBy registerReads t n ≡ given k
+      → writeRegister s n v .reply ≡ Done → readRegister (writeRegister s n v .state) n ≡ given k
+  judged-back n k ok t e g =
+      back n k
+      (λ d. ap (λ (a : Answer). readBy registerReads (a .state) n) e
+      ∙ ap (λ (x : State). readBy registerReads x n) (accepted ok t s (sym (ap (λ (a : Answer). a .reply) e) ∙ d))
+      ∙ g)
+
+pub readsBack : ReadsBack
+unfolding ReadsBack
+readsBack s v b z h =
+    let plain : (n k : ℕ) → (writeBy registerWrites s n v .reply ≡ Done → readBy registerReads (writeBy registerWrites s n v .state) n ≡ given k)
+        → writeRegister s n v .reply ≡ Done → readRegister (writeRegister s n v .state) n ≡ given k = back s v b z h in
+    let judged = judged-back s v b z h in
+    (plain 0x08 v (λ d. refl), (plain 0x14 v (λ d. refl), (plain 0x15 v (λ d. refl), (judged 0x2F v (leb v 3) _ refl refl, (plain 0x30 v (λ d. refl),
+    (plain 0x31 v (λ d. refl), (plain 0x32 v (λ d. refl), (judged 0x33 v (leb v 191) _ refl refl, (plain 0x40 v (λ d. refl),
+    (judged 0x42 v (isMask v) _ refl refl, (judged 0x43 v (isChoice v) _ refl refl, (plain 0x4A v (λ d. refl), (judged 0x4C v (leb v 15) _ refl refl,
+    (judged 0x68 v (eqb (v / 2 % 32) 0) _ refl refl, (judged 0x6B v (eqb (v % 16) 0) _ refl refl, (plain 0x6C v (λ d. refl),
+    (plain 0x6E (v % 64) (λ d. refl), (plain 0x6F (v % 64) (λ d. refl), tt))))))))))))))))))
+
+-- a bit as a number
+bit-of : (k : ℕ) → k < 2 → cond (eqb k 1) 1 0 ≡ k
+bit-of zero l = refl
+bit-of (suc zero) l = refl
+bit-of (suc (suc k)) l = absurd (omega arith)
+
+-- ---- reads of a lawful state
+
+pub clipReads : ClipReads
+unfolding ClipReads
+clipReads s h =
+    let g = apart s h .0 in
+    let u : s .turns .ula % 4 ≡ s .turns .ula = omega (arith, leb-true (s .turns .ula) 3 (ula-turn s (g .turns))) in
+    let t : s .turns .tiles % 4 ≡ s .turns .tiles = omega (arith, leb-true (s .turns .tiles) 3 (tile-turn s (g .turns))) in
+    (read-row s 0x1A h ∙ ap (λ (i : ℕ). given (getD (s .ulaclip) i 0)) u, read-row s 0x1B h ∙ ap (λ (i : ℕ). given (getD (s .tileclip) i 0)) t)
+
+pub turnsReads : TurnsReads
+unfolding TurnsReads
+turnsReads s h =
+    let g = apart s h .0 in
+    let e : s .turns .tiles % 4 * 64 + s .turns .ula % 4 ≡ s .turns .tiles * 64 + s .turns .ula =
+        omega (arith, leb-true (s .turns .ula) 3 (ula-turn s (g .turns)), leb-true (s .turns .tiles) 3 (tile-turn s (g .turns))) in
+    read-row s 0x1C h ∙ ap given e
+
+pub colourReads : ColourReads
+unfolding ColourReads
+colourReads s h =
+    let l : colourAt s ≤ 511 = colour-at (paletteAt (written s) s) (s .palette .index) (palette-at (written s) s (apart s h .1)) in
+    let e : colourAt s / 2 % 256 ≡ colourAt s / 2 = omega arith in
+    (read-row s 0x41 h ∙ ap given e, read-row s 0x44 h)
+
+pub modeReads : ModeReads
+unfolding ModeReads
+modeReads s h l = read-port-row s 0xFF3B h ∙ if-true (leb 64 (s .ports .select)) _ _ (le-leb 64 (s .ports .select) l)
+
+pub writeOnly : WriteOnly
+unfolding WriteOnly
+writeOnly s h = (read-port-row s 0x00FE h, read-port-row s 0xBF3B h, λ e. read-port-row s 0x00FF h ∙ if-false (timexOn (s .ula)) _ _ e)
+
+register-back : (s : State) (v : ℕ) → s .ports .select < 64 → length (s .plus) ≡ 64 → plusRead (plusWritten s v .state) ≡ given v
+register-back s v l k =
+    let m : modeGroup s ≡ false = lt-leb 64 (s .ports .select) l in
+    ap (λ (a : Answer). plusRead (a .state)) (if-false (modeGroup s) _ _ m)
+    ∙ if-false (modeGroup s) _ _ m
+    ∙ ap given (getD-set-same (s .plus) (s .ports .select) v 0 (omega arith))
+
+mode-back : (s : State) (v : ℕ) → 64 ≤ s .ports .select → plusRead (plusWritten s v .state) ≡ given (v % 2)
+mode-back s v l =
+    let m : modeGroup s ≡ true = le-leb 64 (s .ports .select) l in
+    ap (λ (a : Answer). plusRead (a .state)) (if-true (modeGroup s) _ _ m)
+    ∙ if-true (modeGroup s) _ _ m
+    ∙ ap given (bit-of (v % 2) (omega arith))
+
+pub portsReadBack : PortsReadBack
+unfolding PortsReadBack LawfulStays
+portsReadBack s v b z h =
+    let q = split s h z in
+    let back : (n : ℕ) → readPort (writePort s n v .state) n ≡ readBy portReads (writeBy portWrites s n v .state) n =
+        λ n. read-port-row (writePort s n v .state) n (lawfulStays .1 s n v b z h .0) ∙ ap (λ (a : Answer). readBy portReads (a .state) n) (port-row s n v h) in
+    (λ e. back 0x00FF ∙ if-true (timexOn (s .ula)) _ _ e,
+    λ l. back 0xFF3B ∙ register-back s v l (z .registers),
+    λ l. back 0xFF3B ∙ mode-back s v l)
+
+-- ---- the held half
+
+-- a colour stored over another palette group
+stored-over : (s : State) (p q : Palette) (n i c : ℕ) → withPalette (colourStored (withPalette s q) n i c) p ≡ withPalette (colourStored s n i c) p
+stored-over s p q n i c = go (eqb n 0) refl (eqb n 4) refl (eqb n 3) refl
+  where
+    go : (x : Bool) → eqb n 0 ≡ x → (y : Bool) → eqb n 4 ≡ y → (z : Bool) → eqb n 3 ≡ z
+        → withPalette (colourStored (withPalette s q) n i c) p ≡ withPalette (colourStored s n i c) p
+    go true e y f z g = rw e
+    go false e true f z g = rw (e, f)
+    go false e false f true g = rw (e, f, g)
+    go false e false f false g = rw (e, f, g)
+
+module _ (s : State) (first : ℕ) (h : lawfulState s ≡ true) (e : s .palette .held ≡ false) where
+  held-first : Palette
+  held-first = record { control = s .palette .control; index = s .palette .index; mask = s .palette .mask; held = true; half = first }
+
+  once : writeRegister s 0x44 first ≡ done (withPalette s held-first)
+  unfolding held-first
+  once = write-row s 0x44 first h ∙ if-false (s .palette .held) _ _ e
+
+pub nineOnce : NineOnce
+unfolding NineOnce held-first
+nineOnce s first n h e = ap (λ (a : Answer). paletteAt n (a .state)) (once s first h e)
+
+pub nineTwice : NineTwice
+unfolding NineTwice LawfulStays held-first
+nineTwice s first bit b l z h e =
+    let p = held-first s first h e in
+    let s1 = withPalette s p in
+    let o = once s first h e in
+    let h1 : lawfulState s1 ≡ true = sym (ap (λ (a : Answer). lawfulState (a .state)) o) ∙ lawfulStays .0 s 0x44 first b z h .0 in
+    ap (λ (a : Answer). writeRegister (a .state) 0x44 bit) o
+    ∙ write-row s1 0x44 bit h1
+    ∙ if-true (leb bit 1) _ _ (le-leb bit 1 l)
+    ∙ ap done (stored-over s _ p (written s) (s .palette .index) (first * 2 + bit))
+
+-- what an accepted write of a lawful state gives
+if-done : (s : State) (a : Answer) (P : Answer → Type 0) → (a .reply ≡ Done → P a) → writeLawful s a .reply ≡ Done → P (writeLawful s a)
+if-done s a P f = either (λ x. x .reply ≡ Done → P x) (lawfulState s) a (refused NotLawful s) f (λ d. not-done NotLawful refl d)
+
+pub halfDropped : HalfDropped
+unfolding HalfDropped writeRegister
+halfDropped s v =
+    let gone : Answer → Type 0 = λ a. (a .state .palette .held ≡ false) × (a .state .palette .half ≡ 0) in
+    (if-done s (indexWritten s v) gone (λ d. (refl, refl)), (if-done s (eightWritten s v) gone (λ d. (refl, refl)),
+    (if-done s (controlWritten s v) gone (λ d. let e = accepted (isChoice v) _ s d in (ap (λ (x : State). x .palette .held) e, ap (λ (x : State). x .palette .half) e)), tt)))
+
+abbrev Same : State → Answer → Type 0
+Same s a = SameHalf s (a .state)
+
+judged-same : (s : State) (ok : Bool) (t : State) → SameHalf s t → Same s (within ok t s)
+judged-same s ok t h = either (Same s) ok (done t) (refused OutOfBounds s) h (refl, refl)
+
+pub halfKept : HalfKept
+unfolding HalfKept writeRegister writePort
+halfKept s n v =
+    let r : SameHalf s s = (refl, refl) in
+    (λ (x0, (x1, (x3, (x4, _)))).
+    either (Same s) (lawfulState s) (writeBy registerWrites s n v) (refused NotLawful s)
+    (by-row (Same s) registerWrites s n v r
+    (λ e. r, (λ e. r, (λ e. r, (λ e. r, (λ e. r, (λ e. judged-same s (leb v 15) _ r, (λ e. judged-same s (leb v 3) _ r, (λ e. r, (λ e. r, (λ e. r,
+    (λ e. judged-same s (leb v 191) _ r, (λ e. absurd (x0 e), (λ e. absurd (x1 e), (λ e. judged-same s (isMask v) _ r, (λ e. absurd (x3 e), (λ e. absurd (x4 e),
+    (λ e. r, (λ e. judged-same s (leb v 15) _ r, (λ e. judged-same s (eqb (v / 2 % 32) 0) _ r, (λ e. judged-same s (eqb (v % 16) 0) _ r,
+    (λ e. r, (λ e. r, (λ e. r, tt))))))))))))))))))))))))
+    r,
+    either (Same s) (lawfulState s) (writeBy portWrites s n v) (refused NotLawful s)
+    (by-row (Same s) portWrites s n v r
+    (λ e. r, (λ e. r, (λ e. judged-same s (ltb v 128) _ r, (λ e. either (Same s) (modeGroup s) _ _ r r, tt)))))
+    r)
+
+-- ---- clips and turns
+
+abbrev fourSet : List ℕ → ℕ → ℕ → ℕ → ℕ → ℕ → List ℕ
+fourSet l t a b c d =
+    let t1 = nextTurn t in
+    let t2 = nextTurn t1 in
+    let t3 = nextTurn t2 in
+    set (set (set (set l (place t) a) (place t1) b) (place t2) c) (place t3) d
+
+-- four stores in turn, from any place on
+four : (l : List ℕ) (t a b c d : ℕ) → length l ≡ 4 → t ≤ 3
+    → (nextTurn (nextTurn (nextTurn (nextTurn t))) ≡ t)
+    × At (fourSet l t a b c d) t a
+    × At (fourSet l t a b c d) (t + 1) b
+    × At (fourSet l t a b c d) (t + 2) c
+    × At (fourSet l t a b c d) (t + 3) d
+four [] t a b c d e l = absurd (omega arith)
+four (w ∷ []) t a b c d e l = absurd (omega arith)
+four (w ∷ x ∷ []) t a b c d e l = absurd (omega arith)
+four (w ∷ x ∷ y ∷ []) t a b c d e l = absurd (omega arith)
+four (w ∷ x ∷ y ∷ z ∷ []) zero a b c d e l = (refl, refl, refl, refl, refl)
+four (w ∷ x ∷ y ∷ z ∷ []) (suc zero) a b c d e l = (refl, refl, refl, refl, refl)
+four (w ∷ x ∷ y ∷ z ∷ []) (suc (suc zero)) a b c d e l = (refl, refl, refl, refl, refl)
+four (w ∷ x ∷ y ∷ z ∷ []) (suc (suc (suc zero))) a b c d e l = (refl, refl, refl, refl, refl)
+four (w ∷ x ∷ y ∷ z ∷ []) (suc (suc (suc (suc t)))) a b c d e l = absurd (omega arith)
+four (w ∷ x ∷ y ∷ z ∷ u ∷ r) t a b c d e l = absurd (omega arith)
+
+-- four writes of one register, each by its row
+module _ (f : State → ℕ → Answer) (sound : Sound f) (n : ℕ) (row : (s : State) (v : ℕ) → writeBy registerWrites s n v ≡ f s v) where
+  one-write : (s : State) (v : ℕ) → Parts s → writeRegister s n v .state ≡ f s v .state
+  one-write s v p = ap (λ (a : Answer). a .state) (write-row s n v (join s p) ∙ row s v)
+
+  four-writes : (s : State) (a b c d : ℕ) → a < 256 → b < 256 → c < 256 → Parts s
+      → fourWrites n s a b c d ≡ f (f (f (f s a .state) b .state) c .state) d .state
+  four-writes s a b c d la lb lc p =
+      let s1 = f s a .state in
+      let s2 = f s1 b .state in
+      let p1 = sound .kept s a la p in
+      let p2 = sound .kept s1 b lb p1 in
+      ap (λ (x : State). writeRegister (writeRegister (writeRegister x n b .state) n c .state) n d .state) (one-write s a p)
+      ∙ ap (λ (x : State). writeRegister (writeRegister x n c .state) n d .state) (one-write s1 b p1)
+      ∙ ap (λ (x : State). writeRegister x n d .state) (one-write s2 c p2)
+      ∙ one-write (f s2 c .state) d (sound .kept s2 c lc p2)
+
+pub fourClipWrites : FourClipWrites
+unfolding FourClipWrites
+fourClipWrites =
+    (λ s a b c d la lb lc ld z h.
+    let p = split s h z in
+    rw (four-writes ulaClipWritten ula-clip 0x1A (λ x v. refl) s a b c d la lb lc p)
+    (four (s .ulaclip) (s .turns .ula) a b c d (z .ulafour) (leb-true (s .turns .ula) 3 (ula-turn s (p .0 .turns)))),
+    λ s a b c d la lb lc ld z h.
+    let p = split s h z in
+    rw (four-writes tileClipWritten tile-clip 0x1B (λ x v. refl) s a b c d la lb lc p)
+    (four (s .tileclip) (s .turns .tiles) a b c d (z .tilefour) (leb-true (s .turns .tiles) 3 (tile-turn s (p .0 .turns)))))
+
+restart-set : (bit turn : ℕ) → bit ≡ 1 → restarted bit turn ≡ 0
+restart-set bit turn e = if-true (eqb bit 1) 0 turn (eq-eqb bit 1 e)
+
+restart-clear : (bit turn : ℕ) → bit ≡ 0 → restarted bit turn ≡ turn
+restart-clear bit turn e = if-false (eqb bit 1) 0 turn (ne-eqb bit 1 (omega arith))
+
+pub turnsRestarted : TurnsRestarted
+unfolding TurnsRestarted
+turnsRestarted s v l h =
+    let w : writeRegister s 0x1C v ≡ done (withTurns s (record { ula = restarted (v / 4 % 2) (s .turns .ula); tiles = restarted (v / 8 % 2) (s .turns .tiles) })) =
+        write-row s 0x1C v h ∙ if-true (leb v 15) _ _ (le-leb v 15 l) in
+    let u = ap (λ (a : Answer). a .state .turns .ula) w in
+    let t = ap (λ (a : Answer). a .state .turns .tiles) w in
+    (λ e. t ∙ restart-set (v / 8 % 2) (s .turns .tiles) e, λ e. t ∙ restart-clear (v / 8 % 2) (s .turns .tiles) e,
+    λ e. u ∙ restart-set (v / 4 % 2) (s .turns .ula) e, λ e. u ∙ restart-clear (v / 4 % 2) (s .turns .ula) e)

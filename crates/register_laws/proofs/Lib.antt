@@ -1,0 +1,4 @@
+pub mod Parts
+pub mod Rows
+pub mod Effects
+pub mod Claims

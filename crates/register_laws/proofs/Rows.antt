@@ -1,0 +1,60 @@
+-- What holds of a write to each row holds of every write. By induction over the rows of a table.
+use mathlib.Core.Path.{_≡_, refl}
+use mathlib.Core.List.{List, [], _∷_}
+use mathlib.Core.Bool.{Bool, true, false, cond}
+use Prim.Native.Nat.{ℕ, _<_}
+use lib.Dec.{eqb}
+use borrow.Author.Tests.{eqb-true}
+use Rattle.reply.specs.declared.Reply.the-variants.{Done, NoRegister}
+use Rattle.state.specs.declared.State.{State}
+use Rattle.state.specs.declared.Answer.{Answer}
+use Rattle.state.specs.Answer.{done, refused}
+use Rattle.answers.specs.Answers.{within}
+use Rattle.answers.specs.Rows.{WriteRow, writeBy}
+use Rattle.register_laws.specs.Claims.{Each}
+use Rattle.register_laws.proofs.Parts.{Parts, either}
+
+-- a row's effect keeps a lawful state lawful, and a refusal of it hands the same state back
+pub record Sound (f : State → ℕ → Answer) : Type 0 where
+  pub kept : (s : State) (v : ℕ) → v < 256 → Parts s → Parts (f s v .state)
+  pub clean : (s : State) (v : ℕ) → (f s v .reply ≡ Done → ⊥) → f s v .state ≡ s
+
+-- a write that always changes the state
+pub always : (t : State → ℕ → State) → ((s : State) (v : ℕ) → v < 256 → Parts s → Parts (t s v)) → Sound (λ s v. done (t s v))
+always t k = record { kept = k; clean = λ s v h. absurd (h refl) }
+
+-- a write that changes the state where its value is within its bounds
+pub judged : (ok : ℕ → Bool) (t : State → ℕ → State) → ((s : State) (v : ℕ) → v < 256 → ok v ≡ true → Parts s → Parts (t s v))
+    → Sound (λ s v. within (ok v) (t s v) s)
+judged ok t k = record { kept = λ s v b p. keep (ok v) (t s v) s (λ e. k s v b e p) p; clean = λ s v h. same (ok v) (t s v) s h }
+  where
+    keep : (b : Bool) (x y : State) → (b ≡ true → Parts x) → Parts y → Parts (within b x y .state)
+    keep true x y f p = f refl
+    keep false x y f p = p
+    same : (b : Bool) (x y : State) → (within b x y .reply ≡ Done → ⊥) → within b x y .state ≡ y
+    same true x y h = absurd (h refl)
+    same false x y h = refl
+
+-- one of two writes, as the state says
+pub chosen : (b : State → Bool) (f g : State → ℕ → Answer) → Sound f → Sound g → Sound (λ s v. cond (b s) (f s v) (g s v))
+chosen b f g p q =
+    record {
+      kept = λ s v l h. either (λ a. Parts (a .state)) (b s) (f s v) (g s v) (p .kept s v l h) (q .kept s v l h);
+      clean = λ s v. either (λ a. (a .reply ≡ Done → ⊥) → a .state ≡ s) (b s) (f s v) (g s v) (p .clean s v) (q .clean s v);
+    }
+
+-- what holds where no row has the number, and of the row that has it, holds of the table
+pub by-row : (P : Answer → Type 0) (rs : List WriteRow) (s : State) (n v : ℕ) → P (refused NoRegister s)
+    → Each (λ r. n ≡ r .number → P (r .effect s v)) rs → P (writeBy rs s n v)
+by-row P [] s n v p k = p
+by-row P (r ∷ rs) s n v p k = go (by-row P rs s n v p (k .1)) (eqb n (r .number)) refl
+  where
+    go : P (writeBy rs s n v) → (b : Bool) → eqb n (r .number) ≡ b → P (cond b (r .effect s v) (writeBy rs s n v))
+    go q true e = k .0 (eqb-true n (r .number) e)
+    go q false e = q
+
+-- the same of a property that each row has
+pub by-rows : (P : Answer → Type 0) (rs : List WriteRow) (s : State) (n v : ℕ) → P (refused NoRegister s)
+    → ((f : State → ℕ → Answer) → Sound f → P (f s v)) → Each (λ r. Sound (r .effect)) rs → P (writeBy rs s n v)
+by-rows P [] s n v p h k = p
+by-rows P (r ∷ rs) s n v p h k = either P (eqb n (r .number)) (r .effect s v) (writeBy rs s n v) (h (r .effect) (k .0)) (by-rows P rs s n v p h (k .1))
