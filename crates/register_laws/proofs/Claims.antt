@@ -10,7 +10,7 @@ use lib.Dec.{leb, ltb, eqb}
 use borrow.Author.Tests.{le-leb, lt-leb, eq-eqb, ne-eqb, leb-true}
 use Rattle.lists.proofs.Cond.{if-true, if-false}
 use Rattle.reply.specs.declared.Reply.{Reply}
-use Rattle.reply.specs.declared.Reply.the-variants.{Done, NotLawful, NoRegister, OutOfBounds}
+use Rattle.reply.specs.declared.Reply.the-variants.{Done, NotLawful, OutOfBounds}
 use Rattle.state.specs.declared.State.{State}
 use Rattle.state.specs.declared.Palette.{Palette}
 use Rattle.state.specs.declared.Answer.{Answer}
@@ -18,18 +18,17 @@ use Rattle.state.specs.Answer.{done, refused}
 use Rattle.state.specs.Bits.{timexOn}
 use Rattle.state.specs.Lawful.{isMask, isChoice, lawfulState}
 use Rattle.state.specs.With.{withPalette, withTurns}
-use Rattle.answers.specs.declared.Reading.{Reading}
 use Rattle.answers.specs.Answers.{within, given, unread, writeLawful}
 use Rattle.answers.specs.Rows.{WriteRow, writeBy, readBy}
 use Rattle.clips.specs.Clips.{place, nextTurn, ulaClipWritten, tileClipWritten, restarted}
-use Rattle.palettes.specs.Palettes.{paletteAt, withPaletteAt, written, nextIndex, colourAt, colourStored, indexWritten, eightWritten, controlWritten}
+use Rattle.palettes.specs.Palettes.{paletteAt, written, colourAt, colourStored, indexWritten, eightWritten, controlWritten}
 use Rattle.ports.specs.Ports.{modeGroup, plusWritten, plusRead, portWrites, portReads}
 use Rattle.registers.specs.Registers.{registerWrites, registerReads, writeRegister, writePort, readRegister, readPort}
 use Rattle.register_laws.specs.Bounds.{Typed}
-use Rattle.register_laws.specs.Claims.{Each, StaysLawful, LawfulStays, HandsBack, RefusedSame, ReadsBack, PortsReadBack, NineTwice, NineOnce, HalfDropped, SameHalf, HalfKept, At, fourWrites, SetsFour, FourClipWrites, TurnsRestarted, ClipReads, TurnsReads, ColourReads, ModeReads, WriteOnly}
+use Rattle.register_laws.specs.Claims.{Each, LawfulStays, RefusedSame, ReadsBack, PortsReadBack, NineTwice, NineOnce, HalfDropped, SameHalf, HalfKept, At, fourWrites, FourClipWrites, TurnsRestarted, ClipReads, TurnsReads, ColourReads, ModeReads, WriteOnly}
 use Rattle.register_laws.proofs.Parts.{Parts, either, join, split, apart, colour-at, palette-at}
 use Rattle.register_laws.proofs.Rows.{Sound, by-row, by-rows}
-use Rattle.register_laws.proofs.Effects.{registers-sound, ports-sound, ula-turn, tile-turn, ula-clip, tile-clip, nine}
+use Rattle.register_laws.proofs.Effects.{registers-sound, ports-sound, ula-turn, tile-turn, ula-clip, tile-clip}
 
 -- ---- every write
 
@@ -110,13 +109,56 @@ pub readsBack : ReadsBack
 unfolding ReadsBack
 readsBack s v b z h =
     let plain : (n k : ℕ) → (writeBy registerWrites s n v .reply ≡ Done → readBy registerReads (writeBy registerWrites s n v .state) n ≡ given k)
-        → writeRegister s n v .reply ≡ Done → readRegister (writeRegister s n v .state) n ≡ given k = back s v b z h in
-    let judged = judged-back s v b z h in
-    (plain 0x08 v (λ d. refl), (plain 0x14 v (λ d. refl), (plain 0x15 v (λ d. refl), (judged 0x2F v (leb v 3) _ refl refl, (plain 0x30 v (λ d. refl),
-    (plain 0x31 v (λ d. refl), (plain 0x32 v (λ d. refl), (judged 0x33 v (leb v 191) _ refl refl, (plain 0x40 v (λ d. refl),
-    (judged 0x42 v (isMask v) _ refl refl, (judged 0x43 v (isChoice v) _ refl refl, (plain 0x4A v (λ d. refl), (judged 0x4C v (leb v 15) _ refl refl,
-    (judged 0x68 v (eqb (v / 2 % 32) 0) _ refl refl, (judged 0x6B v (eqb (v % 16) 0) _ refl refl, (plain 0x6C v (λ d. refl),
-    (plain 0x6E (v % 64) (λ d. refl), (plain 0x6F (v % 64) (λ d. refl), tt))))))))))))))))))
+    → writeRegister s n v .reply ≡ Done → readRegister (writeRegister s n v .state) n ≡ given k = back s v b z h in
+    let judged = judged-back s v b z h in (
+      plain 0x08 v (λ d. refl),
+      (
+        plain 0x14 v (λ d. refl),
+        (
+          plain 0x15 v (λ d. refl),
+          (
+            judged 0x2F v (leb v 3) _ refl refl,
+            (
+              plain 0x30 v (λ d. refl),
+              (
+                plain 0x31 v (λ d. refl),
+                (
+                  plain 0x32 v (λ d. refl),
+                  (
+                    judged 0x33 v (leb v 191) _ refl refl,
+                    (
+                      plain 0x40 v (λ d. refl),
+                      (
+                        judged 0x42 v (isMask v) _ refl refl,
+                        (
+                          judged 0x43 v (isChoice v) _ refl refl,
+                          (
+                            plain 0x4A v (λ d. refl),
+                            (
+                              judged 0x4C v (leb v 15) _ refl refl,
+                              (
+                                judged 0x68 v (eqb (v / 2 % 32) 0) _ refl refl,
+                                (
+                                  judged 0x6B v (eqb (v % 16) 0) _ refl refl,
+                                  (
+                                    plain 0x6C v (λ d. refl),
+                                    (plain 0x6E (v % 64) (λ d. refl), (plain 0x6F (v % 64) (λ d. refl), tt)),
+                                  ),
+                                ),
+                              ),
+                            ),
+                          ),
+                        ),
+                      ),
+                    ),
+                  ),
+                ),
+              ),
+            ),
+          ),
+        ),
+      ),
+    )
 
 -- a bit as a number
 bit-of : (k : ℕ) → k < 2 → cond (eqb k 1) 1 0 ≡ k
@@ -139,7 +181,7 @@ unfolding TurnsReads
 turnsReads s h =
     let g = apart s h .0 in
     let e : s .turns .tiles % 4 * 64 + s .turns .ula % 4 ≡ s .turns .tiles * 64 + s .turns .ula =
-        omega (arith, leb-true (s .turns .ula) 3 (ula-turn s (g .turns)), leb-true (s .turns .tiles) 3 (tile-turn s (g .turns))) in
+    omega (arith, leb-true (s .turns .ula) 3 (ula-turn s (g .turns)), leb-true (s .turns .tiles) 3 (tile-turn s (g .turns))) in
     read-row s 0x1C h ∙ ap given e
 
 pub colourReads : ColourReads
@@ -176,10 +218,11 @@ unfolding PortsReadBack LawfulStays
 portsReadBack s v b z h =
     let q = split s h z in
     let back : (n : ℕ) → readPort (writePort s n v .state) n ≡ readBy portReads (writeBy portWrites s n v .state) n =
-        λ n. read-port-row (writePort s n v .state) n (lawfulStays .1 s n v b z h .0) ∙ ap (λ (a : Answer). readBy portReads (a .state) n) (port-row s n v h) in
-    (λ e. back 0x00FF ∙ if-true (timexOn (s .ula)) _ _ e,
-    λ l. back 0xFF3B ∙ register-back s v l (z .registers),
-    λ l. back 0xFF3B ∙ mode-back s v l)
+    λ n. read-port-row (writePort s n v .state) n (lawfulStays .1 s n v b z h .0) ∙ ap (λ (a : Answer). readBy portReads (a .state) n) (port-row s n v h) in (
+      λ e. back 0x00FF ∙ if-true (timexOn (s .ula)) _ _ e,
+      λ l. back 0xFF3B ∙ register-back s v l (z .registers),
+      λ l. back 0xFF3B ∙ mode-back s v l,
+    )
 
 -- ---- the held half
 
@@ -225,9 +268,13 @@ if-done s a P f = either (λ x. x .reply ≡ Done → P x) (lawfulState s) a (re
 pub halfDropped : HalfDropped
 unfolding HalfDropped writeRegister
 halfDropped s v =
-    let gone : Answer → Type 0 = λ a. (a .state .palette .held ≡ false) × (a .state .palette .half ≡ 0) in
-    (if-done s (indexWritten s v) gone (λ d. (refl, refl)), (if-done s (eightWritten s v) gone (λ d. (refl, refl)),
-    (if-done s (controlWritten s v) gone (λ d. let e = accepted (isChoice v) _ s d in (ap (λ (x : State). x .palette .held) e, ap (λ (x : State). x .palette .half) e)), tt)))
+    let gone : Answer → Type 0 = λ a. (a .state .palette .held ≡ false) × (a .state .palette .half ≡ 0) in (
+      if-done s (indexWritten s v) gone (λ d. (refl, refl)),
+      (
+        if-done s (eightWritten s v) gone (λ d. (refl, refl)),
+        (if-done s (controlWritten s v) gone (λ d. let e = accepted (isChoice v) _ s d in (ap (λ (x : State). x .palette .held) e, ap (λ (x : State). x .palette .half) e)), tt),
+      ),
+    )
 
 abbrev Same : State → Answer → Type 0
 Same s a = SameHalf s (a .state)
@@ -238,19 +285,76 @@ judged-same s ok t h = either (Same s) ok (done t) (refused OutOfBounds s) h (re
 pub halfKept : HalfKept
 unfolding HalfKept writeRegister writePort
 halfKept s n v =
-    let r : SameHalf s s = (refl, refl) in
-    (λ (x0, (x1, (x3, (x4, _)))).
-    either (Same s) (lawfulState s) (writeBy registerWrites s n v) (refused NotLawful s)
-    (by-row (Same s) registerWrites s n v r
-    (λ e. r, (λ e. r, (λ e. r, (λ e. r, (λ e. r, (λ e. judged-same s (leb v 15) _ r, (λ e. judged-same s (leb v 3) _ r, (λ e. r, (λ e. r, (λ e. r,
-    (λ e. judged-same s (leb v 191) _ r, (λ e. absurd (x0 e), (λ e. absurd (x1 e), (λ e. judged-same s (isMask v) _ r, (λ e. absurd (x3 e), (λ e. absurd (x4 e),
-    (λ e. r, (λ e. judged-same s (leb v 15) _ r, (λ e. judged-same s (eqb (v / 2 % 32) 0) _ r, (λ e. judged-same s (eqb (v % 16) 0) _ r,
-    (λ e. r, (λ e. r, (λ e. r, tt))))))))))))))))))))))))
-    r,
-    either (Same s) (lawfulState s) (writeBy portWrites s n v) (refused NotLawful s)
-    (by-row (Same s) portWrites s n v r
-    (λ e. r, (λ e. r, (λ e. judged-same s (ltb v 128) _ r, (λ e. either (Same s) (modeGroup s) _ _ r r, tt)))))
-    r)
+    let r : SameHalf s s = (refl, refl) in (
+      λ (x0, (x1, (x3, (x4, _)))).
+          either (Same s) (lawfulState s) (writeBy registerWrites s n v) (refused NotLawful s)
+          (by-row (Same s) registerWrites s n v r (
+            λ e. r,
+            (
+              λ e. r,
+              (
+                λ e. r,
+                (
+                  λ e. r,
+                  (
+                    λ e. r,
+                    (
+                      λ e. judged-same s (leb v 15) _ r,
+                      (
+                        λ e. judged-same s (leb v 3) _ r,
+                        (
+                          λ e. r,
+                          (
+                            λ e. r,
+                            (
+                              λ e. r,
+                              (
+                                λ e. judged-same s (leb v 191) _ r,
+                                (
+                                  λ e. absurd (x0 e),
+                                  (
+                                    λ e. absurd (x1 e),
+                                    (
+                                      λ e. judged-same s (isMask v) _ r,
+                                      (
+                                        λ e. absurd (x3 e),
+                                        (
+                                          λ e. absurd (x4 e),
+                                          (
+                                            λ e. r,
+                                            (
+                                              λ e. judged-same s (leb v 15) _ r,
+                                              (
+                                                λ e. judged-same s (eqb (v / 2 % 32) 0) _ r,
+                                                (
+                                                  λ e. judged-same s (eqb (v % 16) 0) _ r,
+                                                  (λ e. r, (λ e. r, (λ e. r, tt))),
+                                                ),
+                                              ),
+                                            ),
+                                          ),
+                                        ),
+                                      ),
+                                    ),
+                                  ),
+                                ),
+                              ),
+                            ),
+                          ),
+                        ),
+                      ),
+                    ),
+                  ),
+                ),
+              ),
+            ),
+          ))
+          r,
+      either (Same s) (lawfulState s) (writeBy portWrites s n v) (refused NotLawful s)
+          (by-row (Same s) portWrites s n v r
+          (λ e. r, (λ e. r, (λ e. judged-same s (ltb v 128) _ r, (λ e. either (Same s) (modeGroup s) _ _ r r, tt)))))
+          r,
+    )
 
 -- ---- clips and turns
 
@@ -298,15 +402,16 @@ module _ (f : State → ℕ → Answer) (sound : Sound f) (n : ℕ) (row : (s : 
 
 pub fourClipWrites : FourClipWrites
 unfolding FourClipWrites
-fourClipWrites =
-    (λ s a b c d la lb lc ld z h.
-    let p = split s h z in
-    rw (four-writes ulaClipWritten ula-clip 0x1A (λ x v. refl) s a b c d la lb lc p)
-    (four (s .ulaclip) (s .turns .ula) a b c d (z .ulafour) (leb-true (s .turns .ula) 3 (ula-turn s (p .0 .turns)))),
-    λ s a b c d la lb lc ld z h.
-    let p = split s h z in
-    rw (four-writes tileClipWritten tile-clip 0x1B (λ x v. refl) s a b c d la lb lc p)
-    (four (s .tileclip) (s .turns .tiles) a b c d (z .tilefour) (leb-true (s .turns .tiles) 3 (tile-turn s (p .0 .turns)))))
+fourClipWrites = (
+  λ s a b c d la lb lc ld z h.
+      let p = split s h z in
+      rw (four-writes ulaClipWritten ula-clip 0x1A (λ x v. refl) s a b c d la lb lc p)
+      (four (s .ulaclip) (s .turns .ula) a b c d (z .ulafour) (leb-true (s .turns .ula) 3 (ula-turn s (p .0 .turns)))),
+  λ s a b c d la lb lc ld z h.
+      let p = split s h z in
+      rw (four-writes tileClipWritten tile-clip 0x1B (λ x v. refl) s a b c d la lb lc p)
+      (four (s .tileclip) (s .turns .tiles) a b c d (z .tilefour) (leb-true (s .turns .tiles) 3 (tile-turn s (p .0 .turns)))),
+)
 
 restart-set : (bit turn : ℕ) → bit ≡ 1 → restarted bit turn ≡ 0
 restart-set bit turn e = if-true (eqb bit 1) 0 turn (eq-eqb bit 1 e)
@@ -318,8 +423,11 @@ pub turnsRestarted : TurnsRestarted
 unfolding TurnsRestarted
 turnsRestarted s v l h =
     let w : writeRegister s 0x1C v ≡ done (withTurns s (record { ula = restarted (v / 4 % 2) (s .turns .ula); tiles = restarted (v / 8 % 2) (s .turns .tiles) })) =
-        write-row s 0x1C v h ∙ if-true (leb v 15) _ _ (le-leb v 15 l) in
+    write-row s 0x1C v h ∙ if-true (leb v 15) _ _ (le-leb v 15 l) in
     let u = ap (λ (a : Answer). a .state .turns .ula) w in
-    let t = ap (λ (a : Answer). a .state .turns .tiles) w in
-    (λ e. t ∙ restart-set (v / 8 % 2) (s .turns .tiles) e, λ e. t ∙ restart-clear (v / 8 % 2) (s .turns .tiles) e,
-    λ e. u ∙ restart-set (v / 4 % 2) (s .turns .ula) e, λ e. u ∙ restart-clear (v / 4 % 2) (s .turns .ula) e)
+    let t = ap (λ (a : Answer). a .state .turns .tiles) w in (
+      λ e. t ∙ restart-set (v / 8 % 2) (s .turns .tiles) e,
+      λ e. t ∙ restart-clear (v / 8 % 2) (s .turns .tiles) e,
+      λ e. u ∙ restart-set (v / 4 % 2) (s .turns .ula) e,
+      λ e. u ∙ restart-clear (v / 4 % 2) (s .turns .ula) e,
+    )

@@ -1,20 +1,18 @@
 -- Each row of the two tables is sound: a lawful state stays lawful under it, and a refusal changes nothing.
 use mathlib.Core.Path.{_≡_, refl, _∙_}
-use mathlib.Core.Bool.{Bool, true, false, _&&_, _||_, cond}
+use mathlib.Core.Bool.{Bool, true, false, _&&_, _||_}
 use Prim.Native.Nat.{ℕ, _+_, _*_, _/_, _%_, _≤_, _<_}
 use native.Mathlib.Omega.{arith}
-use lib.ListN.{length, set, length-set}
+use lib.ListN.{set, length-set}
 use lib.Dec.{leb, ltb, eqb, lit<}
 use borrow.Author.Tests.{le-leb, lt-ltb, leb-true}
 use Rattle.state.specs.declared.State.{State}
 use Rattle.state.specs.declared.Tiles.{Tiles}
 use Rattle.state.specs.declared.Palette.{Palette}
-use Rattle.state.specs.declared.Turns.{Turns}
 use Rattle.state.specs.declared.Ports.{Ports}
 use Rattle.state.specs.Lawful.{isMask, isChoice, lawfulTiles, lawfulPalette, lawfulTurns, lawfulPorts}
 use Rattle.state.specs.Answer.{done}
 use Rattle.state.specs.With.{withUla, withTiles, withPalette, withTurns, withPorts, withUlaClip, withTileClip, withPlus}
-use Rattle.answers.specs.Answers.{within}
 use Rattle.colour.specs.Bytes.{widened}
 use Rattle.plain.specs.Fields.{ulaWithTransparent, ulaWithLayers, ulaWithPeripheral, ulaWithFallback, ulaWithControl, ulaWithX, ulaWithY, tilesWithTransparent, tilesWithControl, tilesWithAttribute, tilesWithXHigh, tilesWithXLow, tilesWithY, tilesWithMap, tilesWithDefinitions}
 use Rattle.plain.specs.Plain.{peripheralWritten, transparentWritten, layersWritten, tileXHighWritten, tileXLowWritten, tileYWritten, ulaXWritten, ulaYWritten, fallbackWritten, tileTransparentWritten, ulaControlWritten, tileControlWritten, tileAttributeWritten, mapWritten, definitionsWritten}
@@ -253,10 +251,73 @@ plus =
 -- ---- the two tables
 
 pub registers-sound : Each (λ r. Sound (r .effect)) registerWrites
-registers-sound =
-    (peripheral, (transparent, (layers, (ula-clip, (tile-clip, (turns, (tile-x-high, (tile-x-low, (tile-y, (ula-x, (ula-y,
-    (index, (eight, (mask, (control, (nine, (fallback, (tile-transparent, (ula-control, (tile-control, (tile-attribute, (map,
-    (definitions, tt)))))))))))))))))))))))
+registers-sound = (
+  peripheral,
+  (
+    transparent,
+    (
+      layers,
+      (
+        ula-clip,
+        (
+          tile-clip,
+          (
+            turns,
+            (
+              tile-x-high,
+              (
+                tile-x-low,
+                (
+                  tile-y,
+                  (
+                    ula-x,
+                    (
+                      ula-y,
+                      (
+                        index,
+                        (
+                          eight,
+                          (
+                            mask,
+                            (
+                              control,
+                              (
+                                nine,
+                                (
+                                  fallback,
+                                  (
+                                    tile-transparent,
+                                    (
+                                      ula-control,
+                                      (
+                                        tile-control,
+                                        (
+                                          tile-attribute,
+                                          (
+                                            map,
+                                            (definitions, tt),
+                                          ),
+                                        ),
+                                      ),
+                                    ),
+                                  ),
+                                ),
+                              ),
+                            ),
+                          ),
+                        ),
+                      ),
+                    ),
+                  ),
+                ),
+              ),
+            ),
+          ),
+        ),
+      ),
+    ),
+  ),
+)
 
 pub ports-sound : Each (λ r. Sound (r .effect)) portWrites
 ports-sound = (border, (timex, (select, (plus, tt))))

@@ -1,11 +1,10 @@
 -- A lawful state taken apart into its groups and put together again, and what replacing one group of it needs.
 use mathlib.Core.Path.{_≡_, refl}
 use mathlib.Core.List.{List, [], _∷_}
-use mathlib.Core.Bool.{Bool, true, false, _&&_, _||_, cond, false≢true}
+use mathlib.Core.Bool.{Bool, true, false, _&&_, cond, false≢true}
 use Prim.Native.Nat.{ℕ, zero, suc, _≤_, _<_}
-use native.Mathlib.Omega.{arith}
 use lib.ListN.{length, set, getD}
-use lib.Dec.{leb, ltb, eqb, lit≤}
+use lib.Dec.{leb, eqb, lit≤}
 use borrow.Author.Tests.{le-leb, leb-true}
 use Rattle.state.specs.declared.State.{State}
 use Rattle.state.specs.declared.Ula.{Ula}
@@ -13,7 +12,7 @@ use Rattle.state.specs.declared.Tiles.{Tiles}
 use Rattle.state.specs.declared.Palette.{Palette}
 use Rattle.state.specs.declared.Turns.{Turns}
 use Rattle.state.specs.declared.Ports.{Ports}
-use Rattle.state.specs.Lawful.{lawfulUla, lawfulPalette, lawfulTiles, lawfulTurns, lawfulPorts, isMask, isChoice, allColours, lawfulState}
+use Rattle.state.specs.Lawful.{lawfulUla, lawfulPalette, lawfulTiles, lawfulTurns, lawfulPorts, allColours, lawfulState}
 use Rattle.state.specs.With.{withUla, withTiles, withPalette, withTurns, withPorts, withUlaClip, withTileClip, withPlus}
 use Rattle.palettes.specs.Palettes.{paletteAt, withPaletteAt}
 use Rattle.register_laws.specs.Bounds.{Typed}
@@ -77,20 +76,21 @@ apart s h9 =
     let h5 = and-l a5 (allColours (s .ulafirst)) h6 in
     let h4 = and-l a4 (lawfulPorts (s .ports)) h5 in
     let h3 = and-l a3 (lawfulTurns (s .turns)) h4 in
-    let h2 = and-l a2 (lawfulTiles (s .tiles)) h3 in
-    (record {
-      ula = and-l (lawfulUla (s .ula)) (lawfulPalette (s .palette)) h2;
-      palette = and-r (lawfulUla (s .ula)) (lawfulPalette (s .palette)) h2;
-      tiles = and-r a2 (lawfulTiles (s .tiles)) h3;
-      turns = and-r a3 (lawfulTurns (s .turns)) h4;
-      ports = and-r a4 (lawfulPorts (s .ports)) h5;
-    },
-    record {
-      ulafirst = and-r a5 (allColours (s .ulafirst)) h6;
-      ulasecond = and-r a6 (allColours (s .ulasecond)) h7;
-      tilefirst = and-r a7 (allColours (s .tilefirst)) h8;
-      tilesecond = and-r a8 (allColours (s .tilesecond)) h9;
-    })
+    let h2 = and-l a2 (lawfulTiles (s .tiles)) h3 in (
+      record {
+        ula = and-l (lawfulUla (s .ula)) (lawfulPalette (s .palette)) h2;
+        palette = and-r (lawfulUla (s .ula)) (lawfulPalette (s .palette)) h2;
+        tiles = and-r a2 (lawfulTiles (s .tiles)) h3;
+        turns = and-r a3 (lawfulTurns (s .turns)) h4;
+        ports = and-r a4 (lawfulPorts (s .ports)) h5;
+      },
+      record {
+        ulafirst = and-r a5 (allColours (s .ulafirst)) h6;
+        ulasecond = and-r a6 (allColours (s .ulasecond)) h7;
+        tilefirst = and-r a7 (allColours (s .tilefirst)) h8;
+        tilesecond = and-r a8 (allColours (s .tilesecond)) h9;
+      },
+    )
 
 pub split : (s : State) → lawfulState s ≡ true → Typed s → Parts s
 split s h z = let a = apart s h in (a .0, a .1, z)
@@ -110,9 +110,11 @@ pub with-ports : (s : State) (o : Ports) → Parts s → lawfulPorts o ≡ true 
 with-ports s o (g, k, z) h = (record { ula = g .ula; palette = g .palette; tiles = g .tiles; turns = g .turns; ports = h }, k, z)
 
 pub with-palette : (s : State) (p : Palette) → Parts s → lawfulPalette p ≡ true → p .half < 256 → Parts (withPalette s p)
-with-palette s p (g, k, z) h b =
-    (record { ula = g .ula; palette = h; tiles = g .tiles; turns = g .turns; ports = g .ports }, k,
-    record { byte = b; ulafour = z .ulafour; tilefour = z .tilefour; registers = z .registers })
+with-palette s p (g, k, z) h b = (
+  record { ula = g .ula; palette = h; tiles = g .tiles; turns = g .turns; ports = g .ports },
+  k,
+  record { byte = b; ulafour = z .ulafour; tilefour = z .tilefour; registers = z .registers },
+)
 
 -- ---- one array replaced by one of its size
 

@@ -31,6 +31,7 @@ judged ok t k = record { kept = λ s v b p. keep (ok v) (t s v) s (λ e. k s v b
     keep : (b : Bool) (x y : State) → (b ≡ true → Parts x) → Parts y → Parts (within b x y .state)
     keep true x y f p = f refl
     keep false x y f p = p
+
     same : (b : Bool) (x y : State) → (within b x y .reply ≡ Done → ⊥) → within b x y .state ≡ y
     same true x y h = absurd (h refl)
     same false x y h = refl

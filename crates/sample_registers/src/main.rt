@@ -1,0 +1,120 @@
+// Runs the script `script`, from the reset state on, and prints what each entry is answered. An entry is four bytes: its
+// kind, a number, high first, and a value.
+use answers::Reading;
+use libc::STDOUT_FILENO;
+use reply::Reply;
+use state::Answer;
+use state::State;
+
+fn print(text: &[u8]) {
+    io::write_all(STDOUT_FILENO, text);
+}
+
+fn print_number(n: u16) {
+    io::print_decimal(STDOUT_FILENO, n as u64);
+}
+
+fn print_reply(r: Reply) {
+    print(b": ");
+    print_number(reply::number(r) as u16);
+}
+
+// The rest of a write's line; the state goes on.
+fn written(number: u16, value: u8, answer: Answer) -> State {
+    let reply = answer.reply;
+    let state = answer.state;
+    print_number(number);
+    print(b" ");
+    print_number(value as u16);
+    print_reply(reply);
+    print(b"\n");
+    state
+}
+
+// The rest of a read's line.
+fn told(number: u16, reading: Reading) {
+    let reply = reading.reply;
+    print_number(number);
+    print_reply(reply);
+    print(b" ");
+    print_number(reading.value as u16);
+    print(b"\n");
+}
+
+fn write_register(s: State, number: u8, value: u8) -> State {
+    print(b"wr ");
+    written(
+        number as u16,
+        value,
+        registers::write_register(s, number, value),
+    )
+}
+
+fn write_port(s: State, port: u16, value: u8) -> State {
+    print(b"wp ");
+    written(port, value, registers::write_port(s, port, value))
+}
+
+fn read_register(s: State, number: u8) -> State {
+    print(b"rr ");
+    told(number as u16, registers::read_register(s, number));
+    s
+}
+
+fn read_port(s: State, port: u16) -> State {
+    print(b"rp ");
+    told(port, registers::read_port(s, port));
+    s
+}
+
+fn next_frame(s: State) -> State {
+    let answer = state::next_frame(s);
+    let reply = answer.reply;
+    print(b"nf");
+    print_reply(reply);
+    print(b"\n");
+    answer.state
+}
+
+fn reset() -> State {
+    print(b"rs");
+    print_reply(Reply::Done);
+    print(b"\n");
+    state::reset()
+}
+
+// One entry, and the state after it.
+fn step(s: State, kind: u8, high: u8, low: u8, value: u8) -> State {
+    let port = lists::wide16(high) * 256 + lists::wide16(low);
+    match kind {
+        0 => write_register(s, low, value),
+        1 => write_port(s, port, value),
+        2 => read_register(s, low),
+        3 => read_port(s, port),
+        4 => next_frame(s),
+        _ => reset(),
+    }
+}
+
+fn run(script: &[u8]) {
+    let mut s = state::reset();
+    let mut at = 0;
+    while at < script.len() / 4 {
+        let i = at * 4;
+        s = step(s, script[i], script[i + 1], script[i + 2], script[i + 3]);
+        at += 1;
+    }
+}
+
+fn main() {
+    let path = b"script";
+    let file = os::open_read(path);
+    if file < 0 {
+        os::fail(path);
+        return;
+    }
+    let mut buffer = io::buffer();
+    let n = io::read_full(file, &mut buffer);
+    libc::close(file);
+    run(&buffer[..n]);
+}
