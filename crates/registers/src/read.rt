@@ -1,7 +1,7 @@
-// Reads by register number and by port. They move nothing.
+// Reads by register number. They move nothing.
 ghost use mathlib.Core.Path.{_≡_};
 ghost use Rattle.answers.specs.Rows.{readBy};
-ghost use Rattle.registers.specs.Registers.{registerReads, readRegister, readPort};
+ghost use Rattle.registers.specs.Registers.{registerReads, readRegister};
 use answers::Reading;
 use answers::give;
 use answers::no_read;
@@ -47,20 +47,6 @@ pub fn read_register(s: State, number: u8) -> Reading
 {
     if lawful(s) {
         read_numbered(s, number)
-    } else {
-        Reading {
-            reply: Reply::NotLawful,
-            value: 0,
-        }
-    }
-}
-
-// The same by port.
-pub fn read_port(s: State, port: u16) -> Reading
-    ensures { λ r. ⌜ r ≡ readPort s port ⌝ }
-{
-    if lawful(s) {
-        ports::read_at(s, port)
     } else {
         Reading {
             reply: Reply::NotLawful,

@@ -1,7 +1,7 @@
-// Writes by register number and by port.
+// Writes by register number.
 ghost use mathlib.Core.Path.{_≡_};
 ghost use Rattle.answers.specs.Rows.{writeBy};
-ghost use Rattle.registers.specs.Registers.{registerWrites, writeRegister, writePort};
+ghost use Rattle.registers.specs.Registers.{registerWrites, writeRegister};
 use answers::no_write;
 use reply::Reply;
 use state::Answer;
@@ -46,20 +46,6 @@ pub fn write_register(s: State, number: u8, value: u8) -> Answer
 {
     if lawful(s) {
         write_numbered(s, number, value)
-    } else {
-        Answer {
-            reply: Reply::NotLawful,
-            state: s,
-        }
-    }
-}
-
-// The same by port.
-pub fn write_port(s: State, port: u16, value: u8) -> Answer
-    ensures { λ r. ⌜ r ≡ writePort s port value ⌝ }
-{
-    if lawful(s) {
-        ports::write_at(s, port, value)
     } else {
         Answer {
             reply: Reply::NotLawful,

@@ -2,8 +2,8 @@
 use Rattle.registers.specs.Registers.{readPort}
 use mathlib.Core.Path.{sym, _∙_}
 use borrow.Author.Needs.{needs}
-use Rattle.registers.proofs.read.read_port.Statement.{statement}
-use Rattle.registers.proofs.read.read_port.Tie as tie
+use Rattle.registers.proofs.port.read_port.Statement.{statement}
+use Rattle.registers.proofs.port.read_port.Tie as tie
 
 lawful-requires : tie.Need-lawful-requires
 lawful-requires c κs = search needs
