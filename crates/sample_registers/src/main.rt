@@ -1,34 +1,31 @@
 // Runs the script `script`, from the reset state on, and prints what each entry is answered. An entry is four bytes: its
 // kind, a number, high first, and a value.
 use answers::Reading;
-use libc::STDOUT_FILENO;
+use files::Read;
+use lists::wide16;
 use reply::Reply;
+use report::word;
 use state::Answer;
 use state::State;
 
-fn print(text: &[u8]) {
-    io::write_all(STDOUT_FILENO, text);
-}
-
 fn print_number(n: u16) {
-    io::print_decimal(STDOUT_FILENO, n as u64);
+    report::number(n as u64);
 }
 
 fn print_reply(r: Reply) {
-    print(b": ");
-    print_number(reply::number(r) as u16);
+    word(b": ");
+    report::number(reply::number(r) as u64);
 }
 
-// The rest of a write's line; the state goes on.
+// The rest of a write's line. The state goes on.
 fn written(number: u16, value: u8, answer: Answer) -> State {
     let reply = answer.reply;
-    let state = answer.state;
     print_number(number);
-    print(b" ");
+    word(b" ");
     print_number(value as u16);
     print_reply(reply);
-    print(b"\n");
-    state
+    word(b"\n");
+    answer.state
 }
 
 // The rest of a read's line.
@@ -36,13 +33,13 @@ fn told(number: u16, reading: Reading) {
     let reply = reading.reply;
     print_number(number);
     print_reply(reply);
-    print(b" ");
+    word(b" ");
     print_number(reading.value as u16);
-    print(b"\n");
+    word(b"\n");
 }
 
 fn write_register(s: State, number: u8, value: u8) -> State {
-    print(b"wr ");
+    word(b"wr ");
     written(
         number as u16,
         value,
@@ -51,18 +48,18 @@ fn write_register(s: State, number: u8, value: u8) -> State {
 }
 
 fn write_port(s: State, port: u16, value: u8) -> State {
-    print(b"wp ");
+    word(b"wp ");
     written(port, value, registers::write_port(s, port, value))
 }
 
 fn read_register(s: State, number: u8) -> State {
-    print(b"rr ");
+    word(b"rr ");
     told(number as u16, registers::read_register(s, number));
     s
 }
 
 fn read_port(s: State, port: u16) -> State {
-    print(b"rp ");
+    word(b"rp ");
     told(port, registers::read_port(s, port));
     s
 }
@@ -70,22 +67,22 @@ fn read_port(s: State, port: u16) -> State {
 fn next_frame(s: State) -> State {
     let answer = state::next_frame(s);
     let reply = answer.reply;
-    print(b"nf");
+    word(b"nf");
     print_reply(reply);
-    print(b"\n");
+    word(b"\n");
     answer.state
 }
 
 fn reset() -> State {
-    print(b"rs");
+    word(b"rs");
     print_reply(Reply::Done);
-    print(b"\n");
+    word(b"\n");
     state::reset()
 }
 
 // One entry, and the state after it.
 fn step(s: State, kind: u8, high: u8, low: u8, value: u8) -> State {
-    let port = lists::wide16(high) * 256 + lists::wide16(low);
+    let port = wide16(high) * 256 + wide16(low);
     match kind {
         0 => write_register(s, low, value),
         1 => write_port(s, port, value),
@@ -107,14 +104,9 @@ fn run(script: &[u8]) {
 }
 
 fn main() {
-    let path = b"script";
-    let file = os::open_read(path);
-    if file < 0 {
-        os::fail(path);
-        return;
-    }
     let mut buffer = io::buffer();
-    let n = io::read_full(file, &mut buffer);
-    libc::close(file);
-    run(&buffer[..n]);
+    match files::read_file(b"script", &mut buffer) {
+        Read::Bytes(n) => run(&buffer[..n]),
+        Read::Missing => word(b"no script\n"),
+    }
 }
