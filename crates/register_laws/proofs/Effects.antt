@@ -20,7 +20,7 @@ use Rattle.clips.specs.Clips.{place, nextTurn, ulaClipWritten, tileClipWritten,
 use Rattle.palettes.specs.Palettes.{paletteAt, written, colourStored, colourPut, indexWritten, eightWritten, maskWritten, controlWritten, nineFirst, nineSecond, nineWritten}
 use Rattle.ports.specs.Ports.{borderWritten, timexWritten, selectWritten, modeGroup, modeWritten, plusWritten, portWrites}
 use Rattle.registers.specs.Registers.{registerWrites}
-use Rattle.register_laws.specs.Claims.{Each}
+use Rattle.register_laws.specs.Claims.{Each, none, _▷_}
 use Rattle.register_laws.proofs.Parts.{Parts, and-l, and-r, both, either, with-ula, with-tiles, with-palette, with-turns, with-ports, with-ulaclip, with-tileclip, with-plus, set-colours, palette-at, with-palette-at}
 use Rattle.register_laws.proofs.Rows.{Sound, always, judged, chosen}
 
@@ -251,73 +251,31 @@ plus =
 -- ---- the two tables
 
 pub registers-sound : Each (λ r. Sound (r .effect)) registerWrites
-registers-sound = (
-  peripheral,
-  (
-    transparent,
-    (
-      layers,
-      (
-        ula-clip,
-        (
-          tile-clip,
-          (
-            turns,
-            (
-              tile-x-high,
-              (
-                tile-x-low,
-                (
-                  tile-y,
-                  (
-                    ula-x,
-                    (
-                      ula-y,
-                      (
-                        index,
-                        (
-                          eight,
-                          (
-                            mask,
-                            (
-                              control,
-                              (
-                                nine,
-                                (
-                                  fallback,
-                                  (
-                                    tile-transparent,
-                                    (
-                                      ula-control,
-                                      (
-                                        tile-control,
-                                        (
-                                          tile-attribute,
-                                          (
-                                            map,
-                                            (definitions, tt),
-                                          ),
-                                        ),
-                                      ),
-                                    ),
-                                  ),
-                                ),
-                              ),
-                            ),
-                          ),
-                        ),
-                      ),
-                    ),
-                  ),
-                ),
-              ),
-            ),
-          ),
-        ),
-      ),
-    ),
-  ),
-)
+registers-sound =
+    peripheral
+    ▷ transparent
+    ▷ layers
+    ▷ ula-clip
+    ▷ tile-clip
+    ▷ turns
+    ▷ tile-x-high
+    ▷ tile-x-low
+    ▷ tile-y
+    ▷ ula-x
+    ▷ ula-y
+    ▷ index
+    ▷ eight
+    ▷ mask
+    ▷ control
+    ▷ nine
+    ▷ fallback
+    ▷ tile-transparent
+    ▷ ula-control
+    ▷ tile-control
+    ▷ tile-attribute
+    ▷ map
+    ▷ definitions
+    ▷ none
 
 pub ports-sound : Each (λ r. Sound (r .effect)) portWrites
-ports-sound = (border, (timex, (select, (plus, tt))))
+ports-sound = border ▷ timex ▷ select ▷ plus ▷ none

@@ -11,7 +11,7 @@ use Rattle.state.specs.declared.Answer.{Answer}
 use Rattle.state.specs.Answer.{done, refused}
 use Rattle.answers.specs.Answers.{within}
 use Rattle.answers.specs.Rows.{WriteRow, writeBy}
-use Rattle.register_laws.specs.Claims.{Each}
+use Rattle.register_laws.specs.Claims.{Each, none, _▷_}
 use Rattle.register_laws.proofs.Parts.{Parts, either}
 
 -- a row's effect keeps a lawful state lawful, and a refusal of it hands the same state back
@@ -47,15 +47,15 @@ chosen b f g p q =
 -- what holds where no row has the number, and of the row that has it, holds of the table
 pub by-row : (P : Answer → Type 0) (rs : List WriteRow) (s : State) (n v : ℕ) → P (refused NoRegister s)
     → Each (λ r. n ≡ r .number → P (r .effect s v)) rs → P (writeBy rs s n v)
-by-row P [] s n v p k = p
-by-row P (r ∷ rs) s n v p k = go (by-row P rs s n v p (k .1)) (eqb n (r .number)) refl
+by-row P [] s n v p none = p
+by-row P (r ∷ rs) s n v p (k ▷ ks) = go (by-row P rs s n v p ks) (eqb n (r .number)) refl
   where
     go : P (writeBy rs s n v) → (b : Bool) → eqb n (r .number) ≡ b → P (cond b (r .effect s v) (writeBy rs s n v))
-    go q true e = k .0 (eqb-true n (r .number) e)
+    go q true e = k (eqb-true n (r .number) e)
     go q false e = q
 
 -- the same of a property that each row has
 pub by-rows : (P : Answer → Type 0) (rs : List WriteRow) (s : State) (n v : ℕ) → P (refused NoRegister s)
     → ((f : State → ℕ → Answer) → Sound f → P (f s v)) → Each (λ r. Sound (r .effect)) rs → P (writeBy rs s n v)
-by-rows P [] s n v p h k = p
-by-rows P (r ∷ rs) s n v p h k = either P (eqb n (r .number)) (r .effect s v) (writeBy rs s n v) (h (r .effect) (k .0)) (by-rows P rs s n v p h (k .1))
+by-rows P [] s n v p h none = p
+by-rows P (r ∷ rs) s n v p h (k ▷ ks) = either P (eqb n (r .number)) (r .effect s v) (writeBy rs s n v) (h (r .effect) k) (by-rows P rs s n v p h ks)

@@ -17,10 +17,11 @@ use Rattle.registers.specs.Registers.{writeRegister, writePort, readRegister, r
 use Rattle.register_laws.specs.Bounds.{Typed}
 
 -- P of each member of a list
-abbrev pub Each : {A : Type 0} → (A → Type 0) → List A → Type 0
-Each P [] = Unit {0}
-Each P (x ∷ xs) = P x × Each P xs
+pub data Each {A : Type 0} (P : A → Type 0) : List A → Type 0 where
+  none : Each P []
+  _▷_ : {x : A} {xs : List A} → P x → Each P xs → Each P (x ∷ xs)
 
+infixr 4 _▷_
 -- a write by number: of a register, or of a port
 abbrev pub Write : Type 0
 Write = State → ℕ → ℕ → Answer
