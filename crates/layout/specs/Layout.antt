@@ -34,53 +34,75 @@ bytes n held = row byte n (λ v. true) held
 abbrev pub palette : (State → List ℕ) → Part
 palette held = row pair 256 (λ v. leb v 511) held
 
--- $14, $15, $08, $43, $40, $42, $4A, $4C, $68, $6B, $6C, $2F, $30, $31, $6E, $6F, $32, $33, ULA clip, tilemap clip,
--- ULA turn, tilemap turn, held, held byte, border, $FF, $BF3B, ULAplus on, frame
-abbrev pub registers : List Part → List Part
-registers rest =
+-- "Then $14, $15, $08, ..", each with the bound that "The state and its registers" gives it
+abbrev pub layout : List Part
+layout =
+    -- $14
     any (λ s. s .ula .transparent)
+    -- $15
     ∷ any (λ s. s .ula .layers)
+    -- $08
     ∷ any (λ s. s .ula .peripheral)
+    -- $43: bits 6-4 are one of four
     ∷ within isChoice (λ s. s .palette .control)
+    -- $40
     ∷ any (λ s. s .palette .index)
+    -- $42: one of the eight masks
     ∷ within isMask (λ s. s .palette .mask)
+    -- $4A
     ∷ any (λ s. s .ula .fallback)
+    -- $4C: at most 15
     ∷ within (λ v. leb v 15) (λ s. s .tiles .transparent)
+    -- $68: bits 5-1 zero
     ∷ within (λ v. eqb (v / 2 % 32) 0) (λ s. s .ula .control)
+    -- $6B: bits 3-0 zero
     ∷ within (λ v. eqb (v % 16) 0) (λ s. s .tiles .control)
+    -- $6C
     ∷ any (λ s. s .tiles .attribute)
+    -- $2F: at most 3
     ∷ within (λ v. leb v 3) (λ s. s .tiles .xhigh)
+    -- $30
     ∷ any (λ s. s .tiles .xlow)
+    -- $31
     ∷ any (λ s. s .tiles .y)
+    -- $6E: below 64
     ∷ within (λ v. ltb v 64) (λ s. s .tiles .map)
+    -- $6F: below 64
     ∷ within (λ v. ltb v 64) (λ s. s .tiles .definitions)
+    -- $32
     ∷ any (λ s. s .ula .x)
+    -- $33: at most 191
     ∷ within (λ v. leb v 191) (λ s. s .ula .y)
+    -- ULA clip
     ∷ bytes 4 (λ s. s .ulaclip)
+    -- tilemap clip
     ∷ bytes 4 (λ s. s .tileclip)
+    -- ULA turn: at most 3
     ∷ within (λ v. leb v 3) (λ s. s .turns .ula)
+    -- tilemap turn: at most 3
     ∷ within (λ v. leb v 3) (λ s. s .turns .tiles)
+    -- held: 0 or 1
     ∷ flag (λ s. s .palette .held)
+    -- held byte: 0 when none is held
     ∷ one (λ held v. eqb held 1 || eqb v 0) (λ s. s .palette .half)
+    -- border: at most 7
     ∷ within (λ v. leb v 7) (λ s. s .ports .border)
+    -- $FF
     ∷ any (λ s. s .ports .timex)
+    -- $BF3B: below 128
     ∷ within (λ v. ltb v 128) (λ s. s .ports .select)
+    -- ULAplus on: 0 or 1
     ∷ flag (λ s. s .ports .plus)
+    -- frame
     ∷ any (λ s. s .frame)
-    ∷ rest
-
--- 64 registers; the four palettes
-abbrev pub tables : List Part
-tables =
-    bytes 64 (λ s. s .plus)
+    -- 64 registers
+    ∷ bytes 64 (λ s. s .plus)
+    -- the four palettes
     ∷ palette (λ s. s .ulafirst)
     ∷ palette (λ s. s .ulasecond)
     ∷ palette (λ s. s .tilefirst)
     ∷ palette (λ s. s .tilesecond)
     ∷ []
-
-abbrev pub layout : List Part
-layout = registers tables
 
 -- the state of what the parts hold, in their order
 abbrev pub fromLayout : FromParts layout
