@@ -1,6 +1,6 @@
 -- The laws of fields in a row: numbers that are written read back, and bytes that are read write back. By induction on
 -- the row, with one case for each width where the first field is read.
-use mathlib.Core.Path.{_≡_, refl, sym, _∙_}
+use mathlib.Core.Path.{_≡_, refl, sym, ap, _∙_}
 use mathlib.Core.List.{List, [], _∷_, _++_, append-assoc, append-nil}
 use Prim.Native.Nat.{ℕ, zero, suc, _+_, _*_, _/_, _%_, _≤_, _<_}
 use native.Mathlib.Nat.{add-zero, mul-zero, mul-suc}
@@ -25,6 +25,11 @@ row-length byte [] = refl
 row-length pair [] = refl
 row-length byte (x ∷ xs) = let e = row-length byte xs in omega arith
 row-length pair (x ∷ xs) = let e = row-length pair xs in omega arith
+
+-- bytes in a row are themselves
+pub row-byte : (xs : List ℕ) → rowBytes byte xs ≡ xs
+row-byte [] = refl
+row-byte (x ∷ xs) = ap (λ (l : List ℕ). x ∷ l) (row-byte xs)
 
 -- a field that is written reads back
 field-back : (w : Width) (x : ℕ) (pre post : List ℕ) (at : ℕ) → length pre ≡ at → fieldAt w (pre ++ (fieldBytes w x ++ post)) at ≡ x
@@ -65,7 +70,7 @@ field-forth pair b k z h =
     let r : fieldAt pair b k % 256 ≡ getD b (k + 1) 0 = omega arith in
     rw (d, r, drop-cons b k 0 l, drop-cons b (suc k) 0 m, add-one)
 
-row-append : (w : Width) (xs ys : List ℕ) → rowBytes w (xs ++ ys) ≡ rowBytes w xs ++ rowBytes w ys
+pub row-append : (w : Width) (xs ys : List ℕ) → rowBytes w (xs ++ ys) ≡ rowBytes w xs ++ rowBytes w ys
 row-append w [] ys = refl
 row-append w (x ∷ xs) ys = rw (row-append w xs ys, append-assoc)
 
