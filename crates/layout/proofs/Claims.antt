@@ -71,6 +71,13 @@ module _ (s : State) (z : Sized s) where
       e ∙ rw (held-place, plus-place, state-whole s z, flag-bound (s .palette .held), flag-bound (s .ports .plus), h)
 
 -- the three stages of reading
+pub counted-number : (b : List ℕ) → counted layout b ≡ true → (fieldAt pair b 0 ≡ 2148) × (length b ≡ recordLength)
+unfolding counted
+counted-number b c =
+    let n : fieldAt pair b 0 ≡ 2148 = eqb-true _ _ (right (eqb (length b) (2 + fieldAt pair b 0)) (eqb (fieldAt pair b 0) 2148) c) in
+    let l : length b ≡ 2 + fieldAt pair b 0 = eqb-true _ _ (left (eqb (length b) (2 + fieldAt pair b 0)) (eqb (fieldAt pair b 0) 2148) c) in
+    (n, l ∙ ap (λ (k : ℕ). 2 + k) n)
+
 accepts : (b : List ℕ) → counted layout b ≡ true → versioned version b ≡ true → sound layout b ≡ true → readRecord b ≡ done (stateIn b)
 unfolding readRecord
 accepts b c v g = if-true (counted layout b) _ _ c ∙ if-true (versioned version b) _ _ v ∙ if-true (sound layout b) _ _ g
@@ -113,12 +120,10 @@ module _ (b : List ℕ) (y : Bytes b) (e : readRecord b .reply ≡ Done) where
   stages = judged (counted layout b) (versioned version b) (sound layout b) (done (stateIn b)) e
 
   stated : fieldAt pair b 0 ≡ 2148
-  unfolding counted
-  stated = eqb-true _ _ (right (eqb (length b) (2 + fieldAt pair b 0)) (eqb (fieldAt pair b 0) 2148) (stages .0))
+  stated = counted-number b (stages .0) .0
 
-  long : length b ≡ 2150
-  unfolding counted
-  long = eqb-true _ _ (left (eqb (length b) (2 + fieldAt pair b 0)) (eqb (fieldAt pair b 0) 2148) (stages .0)) ∙ ap (λ (n : ℕ). 2 + n) stated
+  long : length b ≡ recordLength
+  long = counted-number b (stages .0) .1
 
   answer : readRecord b ≡ done (stateIn b)
   answer = accepts b (stages .0) (stages .1) (stages .2)

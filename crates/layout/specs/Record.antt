@@ -61,9 +61,11 @@ abbrev pub notRecord : Answer
 notRecord = refused NotRecord resetState
 
 -- record reading: the number, the version, the fields; in the base each fault is 13
+abbrev pub readFields : List ℕ → Answer
+readFields b = cond (sound layout b) (done (stateIn b)) notRecord
+
 unfoldable pub readRecord : List ℕ → Answer
-readRecord b =
-    cond (counted layout b) (cond (versioned version b) (cond (sound layout b) (done (stateIn b)) notRecord) notRecord) notRecord
+readRecord b = cond (counted layout b) (cond (versioned version b) (readFields b) notRecord) notRecord
 
 -- record writing: 3, 4
 abbrev pub writeReply : List ℕ → State → Reply

@@ -31,7 +31,7 @@ pub placed-after : (b xs ys : List ℕ) (at n : ℕ) → n ≡ at + length xs �
 unfolding placed
 placed-after b xs ys at n e h =
     let l : length (take at b ++ xs) ≡ n = simp length-append (omega (arith, length-take-le at b (omega arith))) in
-    rw (← e, placed-next (take at b ++ xs) b ys n (n + length ys) l refl, append-assoc (take at b), length-append, ← add-assoc, ← e)
+    rw (← e, placed-next (take at b ++ xs) b ys n (n + length ys) l refl, append-assoc (take at b) xs ys, length-append, ← add-assoc, ← e)
 
 -- a part as long as the whole
 pub placed-whole : (b ys : List ℕ) → length ys ≡ length b → placed b 0 ys ≡ ys

@@ -1,4 +1,7 @@
 // The stored record: a lawful state as bytes, and back.
+mod fields;
+mod reading;
 mod writing;
 
+pub use reading::read_record;
 pub use writing::write_record;
