@@ -1,5 +1,4 @@
 // The stored record: a lawful state as bytes, and back.
-mod fields;
 mod reading;
 mod writing;
 

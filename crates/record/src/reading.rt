@@ -1,11 +1,11 @@
-// A record as a state, judged in three stages: the number of bytes following, the version, the fields.
+// Record reading, judged in three stages: the number of bytes following, the version, the fields.
 ghost use mathlib.Core.Path.{_≡_};
 ghost use Prim.Native.Nat.{_<_};
 ghost use lib.ListN.{length};
 ghost use Rattle.layout.specs.Layout.{layout};
 ghost use Rattle.layout.specs.Record.{recordLength, version, counted, versioned, sound, stateIn, notRecord, readFields, readRecord};
-use crate::fields::state_at;
 use lists::wide;
+use parts::state_at;
 use reply::Reply;
 use state::Answer;
 use state::State;

@@ -2,7 +2,7 @@
 use borrow.Author.Tests.{eq-eqb, ne-eqb}
 use mathlib.Core.Path.{sym, _∙_}
 use Rattle.layout.specs.Bounds.{Sized}
-use Rattle.record.proofs.Made.{record-made}
+use Rattle.parts.proofs.Made.{record-made}
 use borrow.Author.Needs.{needs}
 use Rattle.record.proofs.writing.write_record.Statement.{statement}
 use Rattle.record.proofs.writing.write_record.Tie as tie
