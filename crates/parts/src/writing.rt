@@ -3,12 +3,11 @@ ghost use mathlib.Core.Path.{_≡_};
 ghost use Prim.Native.Nat.{_+_, _*_, _≤_};
 ghost use lib.ListN.{length, take, drop};
 ghost use Rattle.lists.specs.Placed.{placed};
-ghost use Rattle.layout.specs.Fields.{pair, rowBytes};
+ghost use Rattle.layout.specs.Fields.{pair, rowBytes, flagByte};
 ghost use Rattle.layout.specs.Parts.{bytesOf};
 ghost use Rattle.layout.specs.Layout.{layout};
 ghost use Rattle.layout.specs.Bounds.{Sized};
 ghost use Rattle.layout.specs.Record.{recordLength, recordOf};
-use layout::flag_byte;
 use state::State;
 
 fn put_bytes(target: &mut [u8], at: usize, src: &[u8])
@@ -64,6 +63,12 @@ fn before_clips(s: State) -> [u8; 21]
         s.ula.x,
         s.ula.y,
     ]
+}
+
+fn flag_byte(flag: bool) -> u8
+    ensures { λ r. ⌜ r ≡ flagByte flag ⌝ }
+{
+    if flag { 1 } else { 0 }
 }
 
 // The nine parts after the clips.
