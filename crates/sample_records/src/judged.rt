@@ -1,0 +1,54 @@
+// Bytes that are read as a record and written back.
+use files::Read;
+use files::read_file;
+use reply::Reply;
+use state::State;
+
+// Whether the record of a state is these bytes.
+fn written_as(s: State, bytes: &[u8]) -> bool {
+    let mut back = [0u8; 2150];
+    record::write_record(s, &mut back);
+    check::same(&back, bytes)
+}
+
+// The reply; then whether writing gives the same bytes, or whether a refusal gives the reset state.
+pub fn judge(bytes: &[u8]) {
+    let a = record::read_record(bytes);
+    let r = a.reply;
+    report::number(reply::number(r) as u64);
+    if let Reply::Done = r {
+        if written_as(a.state, bytes) {
+            report::word(b" same\n");
+        } else {
+            report::word(b" different\n");
+        }
+    } else {
+        let mut plain = [0u8; 2150];
+        record::write_record(state::reset(), &mut plain);
+        if written_as(a.state, &plain) {
+            report::word(b" reset\n");
+        } else {
+            report::word(b" not reset\n");
+        }
+    }
+}
+
+// The first n of the bytes.
+pub fn judge_first(bytes: &[u8], n: usize) {
+    if n <= bytes.len() {
+        judge(&bytes[..n]);
+    }
+}
+
+// A file of the data folder; one that is longer than a record shows as one byte too many.
+pub fn print_file(name: &[u8]) {
+    report::word(name);
+    let mut bytes = [0u8; 2151];
+    let got = read_file(name, &mut bytes);
+    let Read::Bytes(n) = got else {
+        report::word(b" missing\n");
+        return;
+    };
+    report::word(b" ");
+    judge_first(&bytes, n);
+}
