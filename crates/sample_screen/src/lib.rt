@@ -1,0 +1,8 @@
+// A screen to look at: a state made by register writes, and two banks. Mode 0 shows every ink on every paper, plain and
+// bright, within a blue border; over it a letter F in each of the eight turns, in a colour of its own.
+mod banks;
+mod registers_set;
+
+pub use banks::sample_tiles;
+pub use banks::sample_ula;
+pub use registers_set::sample_state;
