@@ -146,6 +146,11 @@ colours-all f (suc n) h =
     let b : leb (f n) 511 ≡ true = h n (omega arith) in
     colours-append (tab f n) (f n ∷ []) ∙ join (allColours (tab f n)) ((leb (f n) 511 && true) ∷ []) a (cc, tt)
 
+-- one fact and those after it
+infixr 2 _▸_
+_▸_ : {A B : Type 0} → A → B → A × B
+a ▸ b = (a, b)
+
 -- the layout's bounds are those of the flags and of the state
 module _ (b : List ℕ) where
   abbrev colourAt : ℕ → ℕ → ℕ
@@ -181,88 +186,10 @@ module _ (b : List ℕ) where
       let first = colours-each (colourAt 102) 256 (k .ulafirst) in
       let second = colours-each (colourAt 614) 256 (k .ulasecond) in
       let third = colours-each (colourAt 1126) 256 (k .tilefirst) in
-      let fourth = colours-each (colourAt 1638) 256 (k .tilesecond) in (
-        refl,
-        (
-          refl,
-          (
-            refl,
-            (
-              k .choice,
-              (
-                refl,
-                (
-                  k .mask,
-                  (
-                    refl,
-                    (
-                      k .tile,
-                      (
-                        k .control,
-                        (
-                          k .tilemap,
-                          (
-                            refl,
-                            (
-                              k .xhigh,
-                              (
-                                refl,
-                                (
-                                  refl,
-                                  (
-                                    k .map,
-                                    (
-                                      k .definitions,
-                                      (
-                                        refl,
-                                        (
-                                          k .ulay,
-                                          (
-                                            free 4,
-                                            (
-                                              free 4,
-                                              (
-                                                k .ulaturn,
-                                                (
-                                                  k .tileturn,
-                                                  (
-                                                    h,
-                                                    (
-                                                      k .half,
-                                                      (
-                                                        k .border,
-                                                        (
-                                                          refl,
-                                                          (
-                                                            k .select,
-                                                            (p, (refl, (free 64, (first, (second, (third, (fourth, tt))))))),
-                                                          ),
-                                                        ),
-                                                      ),
-                                                    ),
-                                                  ),
-                                                ),
-                                              ),
-                                            ),
-                                          ),
-                                        ),
-                                      ),
-                                    ),
-                                  ),
-                                ),
-                              ),
-                            ),
-                          ),
-                        ),
-                      ),
-                    ),
-                  ),
-                ),
-              ),
-            ),
-          ),
-        ),
-      )
+      let fourth = colours-each (colourAt 1638) 256 (k .tilesecond) in
+      refl ▸ refl ▸ refl ▸ k .choice ▸ refl ▸ k .mask ▸ refl ▸ k .tile ▸ k .control ▸ k .tilemap ▸ refl ▸ k .xhigh ▸ refl ▸ refl
+      ▸ k .map ▸ k .definitions ▸ refl ▸ k .ulay ▸ free 4 ▸ free 4 ▸ k .ulaturn ▸ k .tileturn ▸ h ▸ k .half ▸ k .border ▸ refl
+      ▸ k .select ▸ p ▸ refl ▸ free 64 ▸ first ▸ second ▸ third ▸ fourth ▸ tt
 
   -- no place is bad: the flags are 0 or 1, and the state is lawful
   pub sound-lawful : length b ≡ recordLength → sound layout b ≡ (leb (getD b 31 0) 1 && leb (getD b 36 0) 1 && lawfulState (stateIn b))
