@@ -1,0 +1,18 @@
+-- `fetch` reads one byte of the bank.
+use Rattle.tilemap.specs.Index.{fetched}
+use borrow.Author.Needs.{needs}
+use Rattle.tilemap.proofs.rule.fetch.Statement.{statement}
+use Rattle.tilemap.proofs.rule.fetch.Tie as tie
+
+shared-slice-read-wide : tie.Need-shared-slice-read-wide
+shared-slice-read-wide c = search needs
+
+wide-requires : tie.Need-wide-requires
+wide-requires c κs = search needs
+
+returns : tie.Need-returns
+unfolding fetched
+returns c = (cc, search needs)
+
+pub fetch-spec : {M : Type 1} → statement M
+fetch-spec = tie.close (tie.spec shared-slice-read-wide wide-requires returns)

@@ -1,0 +1,4 @@
+pub mod Index
+pub mod Dots
+pub mod Setup
+pub mod Bounds

@@ -1,0 +1,21 @@
+// The tilemap's dots: the entry of a cell, its turn and its pixels, and the row of a line. Every call here asks for a bank
+// of 16,384 bytes, and for a layout or numbers within their bounds: those that draw or pack judge them first.
+mod cells;
+mod rule;
+mod setup;
+
+pub use cells::across;
+pub use cells::tile_row;
+pub use rule::Entry;
+pub use rule::Layout;
+pub use rule::Spot;
+pub use rule::entry_at;
+pub use rule::entry_pixel;
+pub use rule::fetch;
+pub use rule::half;
+pub use rule::index_at;
+pub use rule::turned;
+pub use setup::Pairs;
+pub use setup::Window;
+pub use setup::layout_of;
+pub use setup::window_of;
