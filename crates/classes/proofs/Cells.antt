@@ -1,0 +1,117 @@
+-- Cells and their turns: a cell's bytes and pixels, what it is for one cell to be another turned, and that this goes on
+-- from cell to cell.
+use mathlib.Core.Path.{_≡_, refl, sym, ap, ap₂, _∙_}
+use mathlib.Core.List.{List}
+use mathlib.Core.Bool.{Bool, true, false, cond}
+use Prim.Native.Nat.{ℕ, _+_, _*_, _/_, _%_, _<_}
+use native.Mathlib.Omega.{arith}
+use lib.Dec.{eqb}
+use lib.ListN.{getD}
+use borrow.Author.Tests.{eqb-true, eq-eqb, ne-eqb}
+use Rattle.lists.specs.Search.{least, some, all}
+use Rattle.lists.proofs.Search.{all-at, all-of, some-of, some-at}
+use Rattle.lists.proofs.Cond.{if-true, if-false}
+use Rattle.lists.proofs.Tab.{getD-tab}
+use Rattle.tilemap.specs.Index.{columnOf, rowOf, halfOf}
+use Rattle.classes.specs.Picture.{pixelOf, cellPixel, cellByte, cellPixels}
+use Rattle.classes.specs.Turned.{turnedAt, turnedInto, canTurn}
+use Rattle.classes.specs.Claims.{After}
+use Rattle.classes.proofs.Group.{composed, divided, column-small, row-small}
+
+-- the pixel at x is a half of the byte it is in
+pub pixel-half : (pic : List ℕ) (c x y : ℕ) → x < 8 → cellPixel pic c x y ≡ halfOf x (cellByte pic c (y * 4 + x / 2))
+unfolding cellPixel pixelOf cellByte halfOf
+pixel-half pic c x y h =
+    let e : (c % 40 * 8 + x) % 2 ≡ x % 2 = omega arith in
+    let line : (y * 4 + x / 2) / 4 ≡ y = omega arith in
+    let byte : (y * 4 + x / 2) % 4 ≡ x / 2 = omega arith in
+    let f : (c / 40 * 8 + y) * 160 + (c % 40 * 8 + x) / 2 ≡ (c / 40 * 8 + y) * 160 + c % 40 * 4 + x / 2 = omega arith in
+    rw (line, byte, e, f)
+
+-- a byte's two pixels
+module _ (pic : List ℕ) (c k b : ℕ) (q : b ≡ cellByte pic c k) where
+  pub pixel-left : b < 256 → b / 16 ≡ cellPixel pic c (k * 2 % 8) (k * 2 / 8)
+  unfolding halfOf
+  pixel-left l =
+      let a : k * 2 % 8 < 8 = omega arith in
+      let e : k * 2 / 8 * 4 + k * 2 % 8 / 2 ≡ k = omega arith in
+      let z : k * 2 % 8 % 2 ≡ 0 = omega arith in
+      let d : b / 16 % 16 ≡ b / 16 = omega arith in
+      sym (rw (pixel-half pic c (k * 2 % 8) (k * 2 / 8) a, e, z, ← q) d)
+
+  pub pixel-right : b % 16 ≡ cellPixel pic c ((k * 2 + 1) % 8) ((k * 2 + 1) / 8)
+  unfolding halfOf
+  pixel-right =
+      let a : (k * 2 + 1) % 8 < 8 = omega arith in
+      let e : (k * 2 + 1) / 8 * 4 + (k * 2 + 1) % 8 / 2 ≡ k = omega arith in
+      let z : (k * 2 + 1) % 8 % 2 ≡ 1 = omega arith in
+      sym (rw (pixel-half pic c ((k * 2 + 1) % 8) ((k * 2 + 1) / 8) a, e, z, ← q))
+
+pub half-small : (x b : ℕ) → halfOf x b < 16
+unfolding halfOf
+half-small x b = go (eqb (x % 2) 0)
+  where
+    go : (z : Bool) → cond z (b / 16 % 16) (b % 16) < 16
+    go true = omega arith
+    go false = omega arith
+
+pub pixel-at : (pic : List ℕ) (c x y : ℕ) → x < 8 → y < 8 → getD (cellPixels pic c) (y * 8 + x) 0 ≡ cellPixel pic c x y
+unfolding cellPixels
+pixel-at pic c x y h k =
+    let ex : (y * 8 + x) % 8 ≡ x = omega arith in
+    let ey : (y * 8 + x) / 8 ≡ y = omega arith in
+    getD-tab (λ (i : ℕ). cellPixel pic c (i % 8) (i / 8)) 64 (y * 8 + x) (omega arith) ∙ ap₂ (cellPixel pic c) ex ey
+
+-- cell c is the pixels of P under the turn t
+unfoldable pub Shows : List ℕ → ℕ → (ℕ → ℕ → ℕ) → ℕ → Type 0
+Shows pic c P t = (x y : ℕ) → x < 8 → y < 8 → cellPixel pic c x y ≡ P (columnOf t x y) (rowOf t x y)
+
+-- a cell shown by the pixels of another, under a turn, is that other turned
+pub turned-of : (pic : List ℕ) (d c t : ℕ) → Shows pic c (cellPixel pic d) t → turnedInto pic d (cellPixels pic c) t ≡ true
+unfolding turnedInto Shows cellPixels
+turned-of pic d c t h =
+    all-of (turnedAt pic d (cellPixels pic c) t) 64
+    (λ i l. eq-eqb _ _ (getD-tab (λ (i : ℕ). cellPixel pic c (i % 8) (i / 8)) 64 i l ∙ h (i % 8) (i / 8) (omega arith) (omega (arith, l))))
+
+pub turned-is : (pic : List ℕ) (d c t : ℕ) → turnedInto pic d (cellPixels pic c) t ≡ true → Shows pic c (cellPixel pic d) t
+unfolding turnedInto Shows
+turned-is pic d c t e x y h k =
+    let ex : (y * 8 + x) % 8 ≡ x = omega arith in
+    let ey : (y * 8 + x) / 8 ≡ y = omega arith in
+    sym (pixel-at pic c x y h k) ∙ eqb-true _ _ (rw (ex, ey) at (all-at (turnedAt pic d (cellPixels pic c) t) 64 e (y * 8 + x) (omega arith)))
+
+pub can-of : (pic : List ℕ) (d c t : ℕ) → t < 8 → Shows pic c (cellPixel pic d) t → canTurn pic d c ≡ true
+unfolding canTurn
+can-of pic d c t l h = some-of (turnedInto pic d (cellPixels pic c)) 8 t l (turned-of pic d c t h)
+
+pub can-at : (pic : List ℕ) (d c : ℕ) → canTurn pic d c ≡ true → (t : ℕ) × (t < 8) × Shows pic c (cellPixel pic d) t
+unfolding canTurn
+can-at pic d c h = let w = some-at (turnedInto pic d (cellPixels pic c)) 8 h in (w .0, w .1, turned-is pic d c (w .0) (w .2))
+
+pub can-self : (pic : List ℕ) (c : ℕ) → canTurn pic c c ≡ true
+unfolding Shows columnOf rowOf
+can-self pic c = can-of pic c c 0 (omega arith) (λ x y h k. refl)
+
+-- c is P under t, d is P under u: c can be turned into d, by the turn that makes u of t
+pub can-share : (pic : List ℕ) (P : ℕ → ℕ → ℕ) (c d t u : ℕ) → t < 8 → u < 8 → Shows pic c P t → Shows pic d P u → canTurn pic c d ≡ true
+unfolding Shows
+can-share pic P c d t u h k hc hd =
+    let w = divided t u h k in
+    let s = w .0 in
+    can-of pic c d s (w .1)
+    (λ x y hx hy.
+    hd x y hx hy ∙ ap₂ P (sym (w .2 .columns x y hx hy)) (sym (w .2 .rows x y hx hy))
+    ∙ sym (hc (columnOf s x y) (rowOf s x y) (column-small s x y (w .1) hx hy) (row-small s x y (w .1) hx hy)))
+
+-- d can be turned into c, and c into e
+pub can-trans : (pic : List ℕ) (d c e : ℕ) → canTurn pic d c ≡ true → canTurn pic c e ≡ true → canTurn pic d e ≡ true
+unfolding Shows
+can-trans pic d c e h k =
+    let w = can-at pic d c h in
+    let v = can-at pic c e k in
+    let u = v .0 in
+    let z = composed (w .0) u (w .1) (v .1) in
+    can-of pic d e (z .0) (z .1)
+    (λ x y hx hy.
+    v .2 x y hx hy ∙ w .2 (columnOf u x y) (rowOf u x y) (column-small u x y (v .1) hx hy) (row-small u x y (v .1) hx hy)
+    ∙ ap₂ (cellPixel pic d) (z .2 .columns x y hx hy) (z .2 .rows x y hx hy))

@@ -1,0 +1,4 @@
+pub mod Group
+pub mod Cells
+pub mod Kept
+pub mod Claims

@@ -1,0 +1,4 @@
+pub mod Picture
+pub mod Turned
+pub mod Mark
+pub mod Claims
