@@ -14,7 +14,7 @@ use Rattle.lists.proofs.Cond.{if-true, if-false}
 use Rattle.lists.proofs.Tab.{getD-tab}
 use Rattle.tilemap.specs.Index.{columnOf, rowOf, halfOf}
 use Rattle.classes.specs.Picture.{pixelOf, cellPixel, cellByte, cellPixels}
-use Rattle.classes.specs.Turned.{turnedAt, turnedInto, canTurn}
+use Rattle.classes.specs.Turned.{turnedAt, turnedInto, canMake, canTurn}
 use Rattle.classes.specs.Claims.{After}
 use Rattle.classes.proofs.Group.{composed, divided, column-small, row-small}
 
@@ -81,11 +81,11 @@ turned-is pic d c t e x y h k =
     sym (pixel-at pic c x y h k) ∙ eqb-true _ _ (rw (ex, ey) at (all-at (turnedAt pic d (cellPixels pic c) t) 64 e (y * 8 + x) (omega arith)))
 
 pub can-of : (pic : List ℕ) (d c t : ℕ) → t < 8 → Shows pic c (cellPixel pic d) t → canTurn pic d c ≡ true
-unfolding canTurn
+unfolding canMake
 can-of pic d c t l h = some-of (turnedInto pic d (cellPixels pic c)) 8 t l (turned-of pic d c t h)
 
 pub can-at : (pic : List ℕ) (d c : ℕ) → canTurn pic d c ≡ true → (t : ℕ) × (t < 8) × Shows pic c (cellPixel pic d) t
-unfolding canTurn
+unfolding canMake
 can-at pic d c h = let w = some-at (turnedInto pic d (cellPixels pic c)) 8 h in (w .0, w .1, turned-is pic d c (w .0) (w .2))
 
 pub can-self : (pic : List ℕ) (c : ℕ) → canTurn pic c c ≡ true

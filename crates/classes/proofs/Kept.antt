@@ -6,13 +6,13 @@ use mathlib.Core.Bool.{Bool, true, false, cond, not}
 use Prim.Native.Nat.{ℕ, _+_, _-_, _*_, _/_, _%_, _≤_, _<_}
 use native.Mathlib.Omega.{arith}
 use lib.Dec.{lit<, eqb}
-use Rattle.lists.specs.Search.{least, some}
-use Rattle.lists.proofs.Search.{least-none}
+use borrow.Author.Tests.{eqb-true}
+use Rattle.lists.proofs.Search.{least-none, all-at}
 use Rattle.tilemap.specs.Index.{columnOf, rowOf, mirrored}
 use Rattle.classes.specs.Picture.{cellPixel, cellPixels}
-use Rattle.classes.specs.Turned.{turnedInto, turnFor, canTurn}
+use Rattle.classes.specs.Turned.{turnedAt, turnedInto, turnFor}
 use Rattle.classes.specs.Mark.{total, pixelIn, fourOf, markTerm, markOf}
-use Rattle.classes.proofs.Cells.{Shows, pixel-at, turned-is}
+use Rattle.classes.proofs.Cells.{pixel-at}
 
 -- twice mirrored
 back : (u : ℕ) → u < 8 → 7 - (7 - u) ≡ u
@@ -58,19 +58,26 @@ mark-turned C D t h = go (eqb (t % 2) 1) (λ u v hu hv. four-turned C D t u v hu
     go false q = omega (arith, q 0 0 (lit< tt) (lit< tt), q 0 1 (lit< tt) (lit< tt), q 0 2 (lit< tt) (lit< tt), q 0 3 (lit< tt) (lit< tt), q 1 0 (lit< tt) (lit< tt), q 1 1 (lit< tt) (lit< tt), q 1 2 (lit< tt) (lit< tt), q 1 3 (lit< tt) (lit< tt), q 2 0 (lit< tt) (lit< tt), q 2 1 (lit< tt) (lit< tt), q 2 2 (lit< tt) (lit< tt), q 2 3 (lit< tt) (lit< tt), q 3 0 (lit< tt) (lit< tt), q 3 1 (lit< tt) (lit< tt), q 3 2 (lit< tt) (lit< tt), q 3 3 (lit< tt) (lit< tt))
     go true q = omega (arith, q 0 0 (lit< tt) (lit< tt), q 0 1 (lit< tt) (lit< tt), q 0 2 (lit< tt) (lit< tt), q 0 3 (lit< tt) (lit< tt), q 1 0 (lit< tt) (lit< tt), q 1 1 (lit< tt) (lit< tt), q 1 2 (lit< tt) (lit< tt), q 1 3 (lit< tt) (lit< tt), q 2 0 (lit< tt) (lit< tt), q 2 1 (lit< tt) (lit< tt), q 2 2 (lit< tt) (lit< tt), q 2 3 (lit< tt) (lit< tt), q 3 0 (lit< tt) (lit< tt), q 3 1 (lit< tt) (lit< tt), q 3 2 (lit< tt) (lit< tt), q 3 3 (lit< tt) (lit< tt))
 
-mark-cell : (pic : List ℕ) (c : ℕ) → markOf (cellPixels pic c) ≡ total (markTerm (cellPixel pic c)) 16
-unfolding markOf columnOf rowOf
-mark-cell pic c = mark-turned (pixelIn (cellPixels pic c)) (cellPixel pic c) 0 (λ x y h k. pixel-at pic c x y h k)
+-- the pixels of a cell that some turn makes of cell d
+made-at : (pic : List ℕ) (d : ℕ) (cell : List ℕ) (t : ℕ) → turnedInto pic d cell t ≡ true
+    → (x y : ℕ) → x < 8 → y < 8 → pixelIn cell x y ≡ cellPixel pic d (columnOf t x y) (rowOf t x y)
+unfolding turnedInto
+made-at pic d cell t e x y h k =
+    let ex : (y * 8 + x) % 8 ≡ x = omega arith in
+    let ey : (y * 8 + x) / 8 ≡ y = omega arith in
+    eqb-true _ _ (rw (ex, ey) at (all-at (turnedAt pic d cell t) 64 e (y * 8 + x) (omega arith)))
 
-pub mark-same : (pic : List ℕ) (d c t : ℕ) → turnedInto pic d (cellPixels pic c) t ≡ true → markOf (cellPixels pic d) ≡ markOf (cellPixels pic c)
-unfolding Shows
-mark-same pic d c t e = mark-cell pic d ∙ sym (mark-turned (cellPixel pic c) (cellPixel pic d) t (turned-is pic d c t e)) ∙ sym (mark-cell pic c)
+pub mark-same : (pic : List ℕ) (d : ℕ) (cell : List ℕ) (t : ℕ) → turnedInto pic d cell t ≡ true → markOf (cellPixels pic d) ≡ markOf cell
+unfolding markOf columnOf rowOf
+mark-same pic d cell t e =
+    mark-turned (pixelIn (cellPixels pic d)) (cellPixel pic d) 0 (λ x y h k. pixel-at pic d x y h k)
+    ∙ sym (mark-turned (pixelIn cell) (cellPixel pic d) t (made-at pic d cell t e))
 
 -- cells with different marks cannot be turned into each other
-pub unmarked : (pic : List ℕ) (d c : ℕ) → (markOf (cellPixels pic d) ≡ markOf (cellPixels pic c) → ⊥) → 8 ≡ turnFor pic d (cellPixels pic c)
+pub unmarked : (pic : List ℕ) (d : ℕ) (cell : List ℕ) → (markOf (cellPixels pic d) ≡ markOf cell → ⊥) → 8 ≡ turnFor pic d cell
 unfolding turnFor
-unmarked pic d c h = least-none (turnedInto pic d (cellPixels pic c)) 8 (λ i l. go i (turnedInto pic d (cellPixels pic c) i) refl)
+unmarked pic d cell h = least-none (turnedInto pic d cell) 8 (λ i l. go i (turnedInto pic d cell i) refl)
   where
-    go : (i : ℕ) (b : Bool) → turnedInto pic d (cellPixels pic c) i ≡ b → b ≡ false
-    go i true e = absurd (h (mark-same pic d c i e))
+    go : (i : ℕ) (b : Bool) → turnedInto pic d cell i ≡ b → b ≡ false
+    go i true e = absurd (h (mark-same pic d cell i e))
     go i false e = refl

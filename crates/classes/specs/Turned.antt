@@ -20,9 +20,13 @@ turnedInto pic d cell t = all (turnedAt pic d cell t) 64
 unfoldable pub turnFor : List ℕ → ℕ → List ℕ → ℕ
 turnFor pic d cell = least (turnedInto pic d cell) 8
 
+-- cell d of a picture can be turned into a cell of 64 pixels
+unfoldable pub canMake : List ℕ → ℕ → List ℕ → Bool
+canMake pic d cell = some (turnedInto pic d cell) 8
+
 -- cell d can be turned into cell c
-unfoldable pub canTurn : List ℕ → ℕ → ℕ → Bool
-canTurn pic d c = some (turnedInto pic d (cellPixels pic c)) 8
+abbrev pub canTurn : List ℕ → ℕ → ℕ → Bool
+canTurn pic d c = canMake pic d (cellPixels pic c)
 
 -- how many cells there are that no earlier cell can be turned into
 unfoldable pub classes : List ℕ → ℕ

@@ -8,3 +8,4 @@ pub use marks::mark;
 pub use pixels::cell_byte;
 pub use pixels::unpack;
 pub use turns::turn_for;
+pub use turns::turn_marked;

@@ -3,6 +3,8 @@ ghost use mathlib.Core.Path.{_≡_};
 ghost use Prim.Native.Nat.{_<_};
 ghost use lib.ListN.{length};
 ghost use Rattle.classes.specs.Turned.{turnedAt, turnedInto, turnFor};
+ghost use Rattle.classes.specs.Picture.{cellPixels};
+ghost use Rattle.classes.specs.Mark.{markOf};
 use crate::pixels::cell_pixel;
 use lists::wide;
 use tilemap::turned;
@@ -40,4 +42,15 @@ pub fn turn_for(pic: &[u8], d: usize, cell: &[u8]) -> usize
         }
     }
     8
+}
+
+// The same, with the marks of both at hand: where they differ no turn is tried.
+pub fn turn_marked(pic: &[u8], d: usize, cell: &[u8], ours: usize, theirs: usize) -> usize
+    requires { ⌜ (length (now pic) ≡ 40960) × (d < 1280) × (length (now cell) ≡ 64) × (ours ≡ markOf (cellPixels (now pic) d)) × (theirs ≡ markOf (now cell)) ⌝ }
+    ensures { λ r. ⌜ r ≡ turnFor (now (pic .entry)) d (now (cell .entry)) ⌝ }
+{
+    if ours != theirs {
+        return 8;
+    }
+    turn_for(pic, d, cell)
 }
