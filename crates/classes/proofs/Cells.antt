@@ -6,15 +6,14 @@ use mathlib.Core.Bool.{Bool, true, false, cond}
 use Prim.Native.Nat.{ℕ, _+_, _*_, _/_, _%_, _<_}
 use native.Mathlib.Omega.{arith}
 use lib.Dec.{eqb}
-use lib.ListN.{getD}
-use borrow.Author.Tests.{eqb-true, eq-eqb, ne-eqb}
+use borrow.Author.Tests.{eqb-true, eq-eqb}
 use Rattle.lists.specs.Search.{least, some, all}
 use Rattle.lists.proofs.Search.{all-at, all-of, some-of, some-at}
-use Rattle.lists.proofs.Cond.{if-true, if-false}
-use Rattle.lists.proofs.Tab.{getD-tab}
+use Rattle.lists.specs.Tab.{tab}
+use Rattle.lists.proofs.Tab.{getD-tab, tab-ext}
 use Rattle.tilemap.specs.Index.{columnOf, rowOf, halfOf}
-use Rattle.classes.specs.Picture.{pixelOf, cellPixel, cellByte, cellPixels}
-use Rattle.classes.specs.Turned.{turnedAt, turnedInto, canMake, canTurn}
+use Rattle.classes.specs.Picture.{pixelOf, cellPixel, cellByte, cellPixels, pixelIn}
+use Rattle.classes.specs.Turned.{turnedAt, turnedRow, turnedInto, canMake, canTurn}
 use Rattle.classes.specs.Claims.{After}
 use Rattle.classes.proofs.Group.{composed, divided, column-small, row-small}
 
@@ -29,23 +28,31 @@ pixel-half pic c x y h =
     rw (line, byte, e, f)
 
 -- a byte's two pixels
-module _ (pic : List ℕ) (c k b : ℕ) (q : b ≡ cellByte pic c k) where
-  pub pixel-left : b < 256 → b / 16 ≡ cellPixel pic c (k * 2 % 8) (k * 2 / 8)
+module _ (pic : List ℕ) (c y k b : ℕ) (l : k < 4) (q : b ≡ cellByte pic c (y * 4 + k)) where
+  pub pixel-left : b < 256 → b / 16 ≡ cellPixel pic c (k * 2) y
   unfolding halfOf
-  pixel-left l =
-      let a : k * 2 % 8 < 8 = omega arith in
-      let e : k * 2 / 8 * 4 + k * 2 % 8 / 2 ≡ k = omega arith in
-      let z : k * 2 % 8 % 2 ≡ 0 = omega arith in
+  pixel-left h =
+      let e : k * 2 / 2 ≡ k = omega arith in
+      let z : k * 2 % 2 ≡ 0 = omega arith in
       let d : b / 16 % 16 ≡ b / 16 = omega arith in
-      sym (rw (pixel-half pic c (k * 2 % 8) (k * 2 / 8) a, e, z, ← q) d)
+      sym (rw (pixel-half pic c (k * 2) y (omega arith), e, z, ← q) d)
 
-  pub pixel-right : b % 16 ≡ cellPixel pic c ((k * 2 + 1) % 8) ((k * 2 + 1) / 8)
+  pub pixel-right : b % 16 ≡ cellPixel pic c (k * 2 + 1) y
   unfolding halfOf
   pixel-right =
-      let a : (k * 2 + 1) % 8 < 8 = omega arith in
-      let e : (k * 2 + 1) / 8 * 4 + (k * 2 + 1) % 8 / 2 ≡ k = omega arith in
-      let z : (k * 2 + 1) % 8 % 2 ≡ 1 = omega arith in
-      sym (rw (pixel-half pic c ((k * 2 + 1) % 8) ((k * 2 + 1) / 8) a, e, z, ← q))
+      let e : (k * 2 + 1) / 2 ≡ k = omega arith in
+      let z : (k * 2 + 1) % 2 ≡ 1 = omega arith in
+      sym (rw (pixel-half pic c (k * 2 + 1) y (omega arith), e, z, ← q))
+
+-- a row of a cell is eight of its pixels
+pub row-of : (pic : List ℕ) (c y a : ℕ) → a ≡ y * 8
+    → tab (λ (x : ℕ). cellPixel pic c x y) 8 ≡ tab (λ (k : ℕ). cellPixel pic c ((a + k) % 8) ((a + k) / 8)) 8
+row-of pic c y a e =
+    tab-ext _ _ 8
+    (λ k g.
+    let ex : (a + k) % 8 ≡ k = omega arith in
+    let ey : (a + k) / 8 ≡ y = omega arith in
+    rw (ex, ey))
 
 pub half-small : (x b : ℕ) → halfOf x b < 16
 unfolding halfOf
@@ -55,38 +62,50 @@ half-small x b = go (eqb (x % 2) 0)
     go true = omega arith
     go false = omega arith
 
-pub pixel-at : (pic : List ℕ) (c x y : ℕ) → x < 8 → y < 8 → getD (cellPixels pic c) (y * 8 + x) 0 ≡ cellPixel pic c x y
+pub pixel-at : (pic : List ℕ) (c x y : ℕ) → x < 8 → y < 8 → pixelIn (cellPixels pic c) x y ≡ cellPixel pic c x y
 unfolding cellPixels
 pixel-at pic c x y h k =
     let ex : (y * 8 + x) % 8 ≡ x = omega arith in
     let ey : (y * 8 + x) / 8 ≡ y = omega arith in
     getD-tab (λ (i : ℕ). cellPixel pic c (i % 8) (i / 8)) 64 (y * 8 + x) (omega arith) ∙ ap₂ (cellPixel pic c) ex ey
 
+-- one cell is another turned: at each pixel
+pub made-of : (from cell : List ℕ) (t : ℕ) → ((x y : ℕ) → x < 8 → y < 8 → pixelIn cell x y ≡ pixelIn from (columnOf t x y) (rowOf t x y))
+    → turnedInto from cell t ≡ true
+unfolding turnedInto turnedRow
+made-of from cell t h = all-of (turnedRow from cell t) 8 (λ y k. all-of (turnedAt from cell t y) 8 (λ x l. eq-eqb _ _ (h x y l k)))
+
+pub made-at : (from cell : List ℕ) (t : ℕ) → turnedInto from cell t ≡ true
+    → (x y : ℕ) → x < 8 → y < 8 → pixelIn cell x y ≡ pixelIn from (columnOf t x y) (rowOf t x y)
+unfolding turnedInto turnedRow
+made-at from cell t e x y h k = eqb-true _ _ (all-at (turnedAt from cell t y) 8 (all-at (turnedRow from cell t) 8 e y k) x h)
+
 -- cell c is the pixels of P under the turn t
 unfoldable pub Shows : List ℕ → ℕ → (ℕ → ℕ → ℕ) → ℕ → Type 0
 Shows pic c P t = (x y : ℕ) → x < 8 → y < 8 → cellPixel pic c x y ≡ P (columnOf t x y) (rowOf t x y)
 
 -- a cell shown by the pixels of another, under a turn, is that other turned
-pub turned-of : (pic : List ℕ) (d c t : ℕ) → Shows pic c (cellPixel pic d) t → turnedInto pic d (cellPixels pic c) t ≡ true
-unfolding turnedInto Shows cellPixels
+pub turned-of : (pic : List ℕ) (d c t : ℕ) → Shows pic c (cellPixel pic d) t → turnedInto (cellPixels pic d) (cellPixels pic c) t ≡ true
+unfolding Shows
 turned-of pic d c t h =
-    all-of (turnedAt pic d (cellPixels pic c) t) 64
-    (λ i l. eq-eqb _ _ (getD-tab (λ (i : ℕ). cellPixel pic c (i % 8) (i / 8)) 64 i l ∙ h (i % 8) (i / 8) (omega arith) (omega (arith, l))))
+    made-of (cellPixels pic d) (cellPixels pic c) t
+    (λ x y k l.
+    pixel-at pic c x y k l ∙ h x y k l ∙ sym (pixel-at pic d (columnOf t x y) (rowOf t x y) (column-small t x y k l) (row-small t x y k l)))
 
-pub turned-is : (pic : List ℕ) (d c t : ℕ) → turnedInto pic d (cellPixels pic c) t ≡ true → Shows pic c (cellPixel pic d) t
-unfolding turnedInto Shows
+pub turned-is : (pic : List ℕ) (d c t : ℕ) → turnedInto (cellPixels pic d) (cellPixels pic c) t ≡ true → Shows pic c (cellPixel pic d) t
+unfolding Shows
 turned-is pic d c t e x y h k =
-    let ex : (y * 8 + x) % 8 ≡ x = omega arith in
-    let ey : (y * 8 + x) / 8 ≡ y = omega arith in
-    sym (pixel-at pic c x y h k) ∙ eqb-true _ _ (rw (ex, ey) at (all-at (turnedAt pic d (cellPixels pic c) t) 64 e (y * 8 + x) (omega arith)))
+    sym (pixel-at pic c x y h k) ∙ made-at (cellPixels pic d) (cellPixels pic c) t e x y h k
+    ∙ pixel-at pic d (columnOf t x y) (rowOf t x y) (column-small t x y h k) (row-small t x y h k)
 
 pub can-of : (pic : List ℕ) (d c t : ℕ) → t < 8 → Shows pic c (cellPixel pic d) t → canTurn pic d c ≡ true
 unfolding canMake
-can-of pic d c t l h = some-of (turnedInto pic d (cellPixels pic c)) 8 t l (turned-of pic d c t h)
+can-of pic d c t l h = some-of (turnedInto (cellPixels pic d) (cellPixels pic c)) 8 t l (turned-of pic d c t h)
 
 pub can-at : (pic : List ℕ) (d c : ℕ) → canTurn pic d c ≡ true → (t : ℕ) × (t < 8) × Shows pic c (cellPixel pic d) t
 unfolding canMake
-can-at pic d c h = let w = some-at (turnedInto pic d (cellPixels pic c)) 8 h in (w .0, w .1, turned-is pic d c (w .0) (w .2))
+can-at pic d c h =
+    let w = some-at (turnedInto (cellPixels pic d) (cellPixels pic c)) 8 h in (w .0, w .1, turned-is pic d c (w .0) (w .2))
 
 pub can-self : (pic : List ℕ) (c : ℕ) → canTurn pic c c ≡ true
 unfolding Shows columnOf rowOf
@@ -101,7 +120,7 @@ can-share pic P c d t u h k hc hd =
     can-of pic c d s (w .1)
     (λ x y hx hy.
     hd x y hx hy ∙ ap₂ P (sym (w .2 .columns x y hx hy)) (sym (w .2 .rows x y hx hy))
-    ∙ sym (hc (columnOf s x y) (rowOf s x y) (column-small s x y (w .1) hx hy) (row-small s x y (w .1) hx hy)))
+    ∙ sym (hc (columnOf s x y) (rowOf s x y) (column-small s x y hx hy) (row-small s x y hx hy)))
 
 -- d can be turned into c, and c into e
 pub can-trans : (pic : List ℕ) (d c e : ℕ) → canTurn pic d c ≡ true → canTurn pic c e ≡ true → canTurn pic d e ≡ true
@@ -113,5 +132,5 @@ can-trans pic d c e h k =
     let z = composed (w .0) u (w .1) (v .1) in
     can-of pic d e (z .0) (z .1)
     (λ x y hx hy.
-    v .2 x y hx hy ∙ w .2 (columnOf u x y) (rowOf u x y) (column-small u x y (v .1) hx hy) (row-small u x y (v .1) hx hy)
+    v .2 x y hx hy ∙ w .2 (columnOf u x y) (rowOf u x y) (column-small u x y hx hy) (row-small u x y hx hy)
     ∙ ap₂ (cellPixel pic d) (z .2 .columns x y hx hy) (z .2 .rows x y hx hy))

@@ -1,13 +1,14 @@
--- The eight turns: one after another is a turn, any turn is any other after some turn, and none leaves the tile. Each is
--- one test that is computed over the flag set.
+-- The eight turns: one after another is a turn, and any turn is any other after some turn, by one test each that is computed
+-- over the flag set; and none leaves the tile.
 use mathlib.Core.Path.{_≡_, refl}
-use mathlib.Core.Bool.{Bool, true, false, cond}
-use Prim.Native.Nat.{ℕ, _<_}
-use lib.Dec.{ltb, eqb}
-use borrow.Author.Tests.{eqb-true, ltb-true}
+use mathlib.Core.Bool.{Bool, true, false, cond, not}
+use Prim.Native.Nat.{ℕ, _/_, _%_, _<_}
+use native.Mathlib.Omega.{arith}
+use lib.Dec.{eqb}
+use borrow.Author.Tests.{eqb-true}
 use Rattle.lists.specs.Search.{least, some, all}
 use Rattle.lists.proofs.Search.{all-at, some-at, and-left, and-right}
-use Rattle.tilemap.specs.Index.{columnOf, rowOf}
+use Rattle.tilemap.specs.Index.{columnOf, rowOf, mirrored}
 use Rattle.classes.specs.Claims.{After}
 
 -- at (x, y), t after u is s
@@ -46,21 +47,19 @@ divided t u h k =
     let w = some-at (λ s. after t s u) 8 (all-at (λ u. some (λ s. after t s u) 8) 8 (all-at (λ t. all (λ u. some (λ s. after t s u) 8) 8) 8 divided-test t h) u k) in
     (w .0, w .1, after-is t (w .0) u (w .2))
 
-inside : ℕ → ℕ → ℕ → Bool
-inside t x y = cond (ltb (columnOf t x y) 8) (ltb (rowOf t x y) 8) false
+mirrored-small : (b : Bool) (v : ℕ) → v < 8 → mirrored b v < 8
+mirrored-small true v h = omega arith
+mirrored-small false v h = h
 
-inside-test : all (λ t. all (λ x. all (inside t x) 8) 8) 8 ≡ true
-unfolding all inside columnOf rowOf
-inside-test = refl
-
-inside-at : (t x y : ℕ) → t < 8 → x < 8 → y < 8 → inside t x y ≡ true
-inside-at t x y h k l = all-at (inside t x) 8 (all-at (λ x. all (inside t x) 8) 8 (all-at (λ t. all (λ x. all (inside t x) 8) 8) 8 inside-test t h) x k) y l
+cond-small : (b : Bool) (u v : ℕ) → u < 8 → v < 8 → cond b u v < 8
+cond-small true u v h k = h
+cond-small false u v h k = k
 
 -- a turn stays within the tile
-pub column-small : (t x y : ℕ) → t < 8 → x < 8 → y < 8 → columnOf t x y < 8
-unfolding inside
-column-small t x y h k l = ltb-true _ _ (and-left _ _ (inside-at t x y h k l))
+pub column-small : (t x y : ℕ) → x < 8 → y < 8 → columnOf t x y < 8
+unfolding columnOf
+column-small t x y h k = cond-small (eqb (t % 2) 1) _ _ (mirrored-small (eqb (t / 2 % 2) 1) y k) (mirrored-small (not (eqb (t / 4 % 2) (t % 2))) x h)
 
-pub row-small : (t x y : ℕ) → t < 8 → x < 8 → y < 8 → rowOf t x y < 8
-unfolding inside
-row-small t x y h k l = ltb-true _ _ (and-right (ltb (columnOf t x y) 8) _ (inside-at t x y h k l))
+pub row-small : (t x y : ℕ) → x < 8 → y < 8 → rowOf t x y < 8
+unfolding rowOf
+row-small t x y h k = cond-small (eqb (t % 2) 1) _ _ (mirrored-small (not (eqb (t / 4 % 2) (t % 2))) x h) (mirrored-small (eqb (t / 2 % 2) 1) y k)

@@ -6,13 +6,16 @@ use mathlib.Core.Bool.{Bool, true, false, cond, not}
 use Prim.Native.Nat.{ℕ, _+_, _-_, _*_, _/_, _%_, _≤_, _<_}
 use native.Mathlib.Omega.{arith}
 use lib.Dec.{lit<, eqb}
-use borrow.Author.Tests.{eqb-true}
-use Rattle.lists.proofs.Search.{least-none, all-at}
+use Rattle.lists.proofs.Search.{least-none}
 use Rattle.tilemap.specs.Index.{columnOf, rowOf, mirrored}
-use Rattle.classes.specs.Picture.{cellPixel, cellPixels}
-use Rattle.classes.specs.Turned.{turnedAt, turnedInto, turnFor}
-use Rattle.classes.specs.Mark.{total, pixelIn, fourOf, markTerm, markOf}
-use Rattle.classes.proofs.Cells.{pixel-at}
+use Rattle.classes.specs.Picture.{pixelIn}
+use Rattle.classes.specs.Turned.{turnedInto, turnFor}
+use Rattle.classes.specs.Mark.{total, weight, weightAt, markTerm, markOf}
+use Rattle.classes.proofs.Cells.{made-at}
+
+-- the four pixels that mirrors make of (u, v), added
+fourOf : (ℕ → ℕ → ℕ) → ℕ → ℕ → ℕ
+fourOf P u v = P u v + P (7 - u) v + P u (7 - v) + P (7 - u) (7 - v)
 
 -- twice mirrored
 back : (u : ℕ) → u < 8 → 7 - (7 - u) ≡ u
@@ -49,35 +52,38 @@ four-turned C D t u v hu hv h = go (eqb (t % 2) 1) (not (eqb (t / 4 % 2) (t % 2)
     go true f g h =
         four-same C (λ x y. D (mirrored g y) (mirrored f x)) u v hu hv h ∙ four-mirrored (λ x y. D y x) f g u v hu hv ∙ four-swap D u v
 
-mark-turned : (C D : ℕ → ℕ → ℕ) (t : ℕ) → ((x y : ℕ) → x < 8 → y < 8 → C x y ≡ D (columnOf t x y) (rowOf t x y))
-    → total (markTerm C) 16 ≡ total (markTerm D) 16
-unfolding total markTerm
-mark-turned C D t h = go (eqb (t % 2) 1) (λ u v hu hv. four-turned C D t u v hu hv h)
-  where
-    go : (r : Bool) → ((u v : ℕ) → u < 8 → v < 8 → fourOf C u v ≡ cond r (fourOf D v u) (fourOf D u v)) → total (markTerm C) 16 ≡ total (markTerm D) 16
-    go false q = omega (arith, q 0 0 (lit< tt) (lit< tt), q 0 1 (lit< tt) (lit< tt), q 0 2 (lit< tt) (lit< tt), q 0 3 (lit< tt) (lit< tt), q 1 0 (lit< tt) (lit< tt), q 1 1 (lit< tt) (lit< tt), q 1 2 (lit< tt) (lit< tt), q 1 3 (lit< tt) (lit< tt), q 2 0 (lit< tt) (lit< tt), q 2 1 (lit< tt) (lit< tt), q 2 2 (lit< tt) (lit< tt), q 2 3 (lit< tt) (lit< tt), q 3 0 (lit< tt) (lit< tt), q 3 1 (lit< tt) (lit< tt), q 3 2 (lit< tt) (lit< tt), q 3 3 (lit< tt) (lit< tt))
-    go true q = omega (arith, q 0 0 (lit< tt) (lit< tt), q 0 1 (lit< tt) (lit< tt), q 0 2 (lit< tt) (lit< tt), q 0 3 (lit< tt) (lit< tt), q 1 0 (lit< tt) (lit< tt), q 1 1 (lit< tt) (lit< tt), q 1 2 (lit< tt) (lit< tt), q 1 3 (lit< tt) (lit< tt), q 2 0 (lit< tt) (lit< tt), q 2 1 (lit< tt) (lit< tt), q 2 2 (lit< tt) (lit< tt), q 2 3 (lit< tt) (lit< tt), q 3 0 (lit< tt) (lit< tt), q 3 1 (lit< tt) (lit< tt), q 3 2 (lit< tt) (lit< tt), q 3 3 (lit< tt) (lit< tt))
+-- the mark of the pixels P is that of the 16 places of a quarter
+marked : (ℕ → ℕ → ℕ) → ℕ
+marked P = total (λ i. weightAt i * P (i % 8) (i / 8)) 64
 
--- the pixels of a cell that some turn makes of cell d
-made-at : (pic : List ℕ) (d : ℕ) (cell : List ℕ) (t : ℕ) → turnedInto pic d cell t ≡ true
-    → (x y : ℕ) → x < 8 → y < 8 → pixelIn cell x y ≡ cellPixel pic d (columnOf t x y) (rowOf t x y)
-unfolding turnedInto
-made-at pic d cell t e x y h k =
-    let ex : (y * 8 + x) % 8 ≡ x = omega arith in
-    let ey : (y * 8 + x) / 8 ≡ y = omega arith in
-    eqb-true _ _ (rw (ex, ey) at (all-at (turnedAt pic d cell t) 64 e (y * 8 + x) (omega arith)))
+quarter : (ℕ → ℕ → ℕ) → ℕ
+quarter P = total (λ i. weight (i % 4) (i / 4) * fourOf P (i % 4) (i / 4)) 16
 
-pub mark-same : (pic : List ℕ) (d : ℕ) (cell : List ℕ) (t : ℕ) → turnedInto pic d cell t ≡ true → markOf (cellPixels pic d) ≡ markOf cell
-unfolding markOf columnOf rowOf
-mark-same pic d cell t e =
-    mark-turned (pixelIn (cellPixels pic d)) (cellPixel pic d) 0 (λ x y h k. pixel-at pic d x y h k)
-    ∙ sym (mark-turned (pixelIn cell) (cellPixel pic d) t (made-at pic d cell t e))
+marked-quarter : (P : ℕ → ℕ → ℕ) → marked P ≡ quarter P
+unfolding marked quarter total weightAt fourOf
+marked-quarter P = omega arith
+
+quarter-turned : (C D : ℕ → ℕ → ℕ) (r : Bool) → ((u v : ℕ) → u < 8 → v < 8 → fourOf C u v ≡ cond r (fourOf D v u) (fourOf D u v)) → quarter C ≡ quarter D
+unfolding quarter total
+quarter-turned C D false q = omega (arith, q 0 0 (lit< tt) (lit< tt), q 0 1 (lit< tt) (lit< tt), q 0 2 (lit< tt) (lit< tt), q 0 3 (lit< tt) (lit< tt), q 1 0 (lit< tt) (lit< tt), q 1 1 (lit< tt) (lit< tt), q 1 2 (lit< tt) (lit< tt), q 1 3 (lit< tt) (lit< tt), q 2 0 (lit< tt) (lit< tt), q 2 1 (lit< tt) (lit< tt), q 2 2 (lit< tt) (lit< tt), q 2 3 (lit< tt) (lit< tt), q 3 0 (lit< tt) (lit< tt), q 3 1 (lit< tt) (lit< tt), q 3 2 (lit< tt) (lit< tt), q 3 3 (lit< tt) (lit< tt))
+quarter-turned C D true q = omega (arith, q 0 0 (lit< tt) (lit< tt), q 0 1 (lit< tt) (lit< tt), q 0 2 (lit< tt) (lit< tt), q 0 3 (lit< tt) (lit< tt), q 1 0 (lit< tt) (lit< tt), q 1 1 (lit< tt) (lit< tt), q 1 2 (lit< tt) (lit< tt), q 1 3 (lit< tt) (lit< tt), q 2 0 (lit< tt) (lit< tt), q 2 1 (lit< tt) (lit< tt), q 2 2 (lit< tt) (lit< tt), q 2 3 (lit< tt) (lit< tt), q 3 0 (lit< tt) (lit< tt), q 3 1 (lit< tt) (lit< tt), q 3 2 (lit< tt) (lit< tt), q 3 3 (lit< tt) (lit< tt))
+
+mark-turned : (C D : ℕ → ℕ → ℕ) (t : ℕ) → ((x y : ℕ) → x < 8 → y < 8 → C x y ≡ D (columnOf t x y) (rowOf t x y)) → marked C ≡ marked D
+mark-turned C D t h = marked-quarter C ∙ quarter-turned C D (eqb (t % 2) 1) (λ u v hu hv. four-turned C D t u v hu hv h) ∙ sym (marked-quarter D)
+
+mark-cell : (cell : List ℕ) → markOf cell ≡ marked (pixelIn cell)
+unfolding markOf marked markTerm total
+mark-cell cell = refl
+
+pub mark-same : (from cell : List ℕ) (t : ℕ) → turnedInto from cell t ≡ true → markOf from ≡ markOf cell
+mark-same from cell t e =
+    mark-cell from ∙ sym (mark-turned (pixelIn cell) (pixelIn from) t (made-at from cell t e)) ∙ sym (mark-cell cell)
 
 -- cells with different marks cannot be turned into each other
-pub unmarked : (pic : List ℕ) (d : ℕ) (cell : List ℕ) → (markOf (cellPixels pic d) ≡ markOf cell → ⊥) → 8 ≡ turnFor pic d cell
+pub unmarked : (from cell : List ℕ) → (markOf from ≡ markOf cell → ⊥) → 8 ≡ turnFor from cell
 unfolding turnFor
-unmarked pic d cell h = least-none (turnedInto pic d cell) 8 (λ i l. go i (turnedInto pic d cell i) refl)
+unmarked from cell h = least-none (turnedInto from cell) 8 (λ i l. go i (turnedInto from cell i) refl)
   where
-    go : (i : ℕ) (b : Bool) → turnedInto pic d cell i ≡ b → b ≡ false
-    go i true e = absurd (h (mark-same pic d cell i e))
+    go : (i : ℕ) (b : Bool) → turnedInto from cell i ≡ b → b ≡ false
+    go i true e = absurd (h (mark-same from cell i e))
     go i false e = refl

@@ -20,3 +20,7 @@ cellByte pic c k = getD pic ((c / 40 * 8 + k / 4) * 160 + c % 40 * 4 + k % 4) 0
 -- the 64 pixels of a cell, row by row
 unfoldable pub cellPixels : List ℕ → ℕ → List ℕ
 cellPixels pic c = tab (λ (i : ℕ). cellPixel pic c (i % 8) (i / 8)) 64
+
+-- pixel (x, y) of a cell of 64 pixels
+abbrev pub pixelIn : List ℕ → ℕ → ℕ → ℕ
+pixelIn cell x y = getD cell (y * 8 + x) 0

@@ -1,47 +1,108 @@
 // A number that a cell keeps when it is turned.
 ghost use mathlib.Core.Path.{_≡_};
-ghost use Prim.Native.Nat.{_*_, _<_, _≤_};
+ghost use Prim.Native.Nat.{_<_, _≤_};
 ghost use lib.ListN.{length};
-ghost use Rattle.classes.specs.Mark.{pixelIn, fourOf, weight, markTerm, markOf};
-use lists::wide;
+ghost use Rattle.lists.specs.Tab.{tab};
+ghost use Rattle.classes.specs.Mark.{weightAt, markTerm, markOf};
 
-// The pixels that mirrors make of (u, v), added.
-fn four(cell: &[u8], u: usize, v: usize) -> usize
-    requires { ⌜ (length (now cell) ≡ 64) × (u < 4) × (v < 4) ⌝ }
-    ensures { λ r. ⌜ (r ≡ fourOf (pixelIn (now (cell .entry))) u v) × (r ≤ 1020) ⌝ }
+// A weight for each pixel, the same for those that turns exchange.
+const WEIGHTS: [u32; 64] = [
+    1,
+    38,
+    75,
+    112,
+    112,
+    75,
+    38,
+    1,
+    38,
+    1084,
+    2130,
+    3176,
+    3176,
+    2130,
+    1084,
+    38,
+    75,
+    2130,
+    4185,
+    6240,
+    6240,
+    4185,
+    2130,
+    75,
+    112,
+    3176,
+    6240,
+    9304,
+    9304,
+    6240,
+    3176,
+    112,
+    112,
+    3176,
+    6240,
+    9304,
+    9304,
+    6240,
+    3176,
+    112,
+    75,
+    2130,
+    4185,
+    6240,
+    6240,
+    4185,
+    2130,
+    75,
+    38,
+    1084,
+    2130,
+    3176,
+    3176,
+    2130,
+    1084,
+    38,
+    1,
+    38,
+    75,
+    112,
+    112,
+    75,
+    38,
+    1,
+];
+
+fn pixel(b: u8) -> u32
+    ensures { λ r. ⌜ (r ≡ b) × (r ≤ 255) ⌝ }
 {
-    let top = v * 8;
-    let bottom = (7 - v) * 8;
-    wide(cell[top + u])
-        + wide(cell[top + (7 - u)])
-        + wide(cell[bottom + u])
-        + wide(cell[bottom + (7 - u)])
+    b as u32
 }
 
-fn weight_of(u: usize, v: usize) -> usize
-    requires { ⌜ (u < 4) × (v < 4) ⌝ }
-    ensures { λ r. ⌜ (r ≡ weight u v) × (r ≤ 10000) ⌝ }
+fn mark_term(cell: &[u8], weights: &[u32], i: usize) -> u32
+    requires { ⌜ (length (now cell) ≡ 64) × (now weights ≡ tab weightAt 64) × (i < 64) ⌝ }
+    ensures { λ r. ⌜ (r ≡ markTerm (now (cell .entry)) i) × (r ≤ 2550000) ⌝ }
 {
-    1 + 37 * (u + v) + 1009 * u * v
+    weights[i] * pixel(cell[i])
 }
 
-fn mark_term(cell: &[u8], i: usize) -> usize
-    requires { ⌜ (length (now cell) ≡ 64) × (i < 16) ⌝ }
-    ensures { λ r. ⌜ (r ≡ markTerm (pixelIn (now (cell .entry))) i) × (r ≤ 10200000) ⌝ }
-{
-    let w = weight_of(i % 4, i / 4);
-    let f = four(cell, i % 4, i / 4);
-    w * f
-}
-
-// The mark of an unpacked cell.
-pub fn mark(cell: &[u8]) -> usize
-    requires { ⌜ length (now cell) ≡ 64 ⌝ }
+fn sum(cell: &[u8], weights: &[u32]) -> u32
+    requires { ⌜ (length (now cell) ≡ 64) × (now weights ≡ tab weightAt 64) ⌝ }
     ensures { λ r. ⌜ r ≡ markOf (now (cell .entry)) ⌝ }
 {
     let mut s = 0;
-    for i in 0..16 {
-        s += mark_term(cell, i);
+    for i in 0..64 {
+        s += mark_term(cell, weights, i);
     }
     s
+}
+
+// The mark of an unpacked cell. The table is taken into a local once and lent, since a constant is made anew where it is
+// named.
+pub fn mark(cell: &[u8]) -> u32
+    requires { ⌜ length (now cell) ≡ 64 ⌝ }
+    ensures { λ r. ⌜ r ≡ markOf (now (cell .entry)) ⌝ }
+{
+    let weights = WEIGHTS;
+    sum(cell, &weights)
 }

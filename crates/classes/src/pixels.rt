@@ -1,10 +1,9 @@
 // The pixels of a picture's cells.
 ghost use mathlib.Core.Path.{_≡_};
-ghost use Prim.Native.Nat.{_<_};
+ghost use Prim.Native.Nat.{ℕ, _+_, _*_, _≤_, _<_};
 ghost use lib.ListN.{length};
-ghost use Rattle.classes.specs.Picture.{cellPixel, cellByte, cellPixels};
-use lists::wide;
-use tilemap::half;
+ghost use Rattle.lists.specs.Tab.{tab};
+ghost use Rattle.classes.specs.Picture.{cellByte, cellPixel, cellPixels};
 
 // Byte k of the 32 of a cell.
 pub fn cell_byte(pic: &[u8], c: usize, k: usize) -> u8
@@ -14,24 +13,26 @@ pub fn cell_byte(pic: &[u8], c: usize, k: usize) -> u8
     pic[(c / 40 * 8 + k / 4) * 160 + c % 40 * 4 + k % 4]
 }
 
-// The 64 pixels of a cell.
-pub fn unpack(pic: &[u8], c: usize, out: &mut [u8])
-    requires { ⌜ (length (now pic) ≡ 40960) × (c < 1280) × (length (now out) ≡ 64) ⌝ }
-    ensures { λ r. ⌜ now (out .exit) ≡ cellPixels (now (pic .entry)) c ⌝ }
+// Row y of a cell.
+fn unpack_row(pic: &[u8], c: usize, y: usize, out: &mut [u8])
+    requires { ⌜ (length (now pic) ≡ 40960) × (c < 1280) × (y < 8) × (length (now out) ≡ 8) ⌝ }
+    ensures { λ r. ⌜ now (out .exit) ≡ tab (λ (x : ℕ). cellPixel (now (pic .entry)) c x y) 8 ⌝ }
 {
-    for k in 0..32 {
-        let b = cell_byte(pic, c, k);
+    for k in 0..4 {
+        let b = cell_byte(pic, c, y * 4 + k);
         out[k * 2] = b / 16;
         out[k * 2 + 1] = b % 16;
     }
 }
 
-// A pixel of a cell, read in the picture.
-pub fn cell_pixel(pic: &[u8], c: usize, x: usize, y: usize) -> usize
-    requires { ⌜ (length (now pic) ≡ 40960) × (c < 1280) × (x < 8) × (y < 8) ⌝ }
-    ensures { λ r. ⌜ r ≡ cellPixel (now (pic .entry)) c x y ⌝ }
+// The 64 pixels of a cell.
+pub fn unpack(pic: &[u8], c: usize, out: &mut [u8])
+    requires { ⌜ (length (now pic) ≡ 40960) × (c < 1280) × (length (now out) ≡ 64) ⌝ }
+    ensures { λ r. ⌜ now (out .exit) ≡ cellPixels (now (pic .entry)) c ⌝ }
 {
-    let px = c % 40 * 8 + x;
-    let py = c / 40 * 8 + y;
-    half(px, wide(pic[py * 160 + px / 2]))
+    for y in 0..8 {
+        let a = y * 8;
+        let e = a + 8;
+        unpack_row(pic, c, y, &mut out[a..e]);
+    }
 }

@@ -1,55 +1,20 @@
--- The loop of `mark`: the terms so far.
-use Rattle.classes.specs.Mark.{total, pixelIn, markTerm, markOf}
-use native.Mathlib.Numerals.{add-one}
-use Prim.Native.Nat.{ℕ, _+_, _*_, _≤_, _-_}
+-- The rule of the weights, once over the whole table: its 64 entries are computed to be those of the rule.
+use Rattle.classes.specs.Mark.{weightAt}
+use Rattle.lists.specs.Tab.{tab}
+use mathlib.Core.Path.{refl}
 use borrow.Author.Needs.{needs}
-use mathlib.Core.Path.{_≡_, refl, ap, ap₂, _∙_}
-use native.Mathlib.Omega.{arith}
 use Rattle.classes.proofs.marks.mark.Statement.{statement}
 use Rattle.classes.proofs.marks.mark.Tie as tie
 
-abbrev Inv-loop : tie.InvT-loop
-Inv-loop cell s₀ i₀ s i = (i ≤ 16) × (s ≡ total (markTerm (pixelIn cell)) i) × (s ≤ 10200000 * i)
+slice-aggregate-sum : tie.Need-slice-aggregate-sum
+slice-aggregate-sum c = search needs
 
-abbrev μ-loop : tie.MeasureT-loop
-μ-loop cell s₀ i₀ s i = 16 - i
+sum-requires : tie.Need-sum-requires
+unfolding tab weightAt
+sum-requires c κs = (search needs, refl)
 
-loop-holds : tie.Need-loop-holds Inv-loop μ-loop
-unfolding total
-loop-holds c = (omega arith, refl, omega arith)
-
-mark-term-requires : tie.Need-mark-term-requires Inv-loop μ-loop
-mark-term-requires c κs = search needs
-
-add-s : tie.Need-add-s Inv-loop μ-loop
-add-s c = search needs
-
-add-i : tie.Need-add-i Inv-loop μ-loop
-add-i c = search needs
-
-loop-less : tie.Need-loop-less Inv-loop μ-loop
-loop-less c = search needs
-
-loop-again : tie.Need-loop-again Inv-loop μ-loop
-unfolding total
-loop-again c = (omega arith, rw (add-one (c .before .before .loop .i)) (ap₂ (λ (x y : ℕ). x + y) (c .before .before .loop .inv .1) (c .mark-term .ensures .0)), omega arith)
-
-returns : tie.Need-returns Inv-loop μ-loop
-unfolding markOf
-returns c = let a = c .before .before .before .args in
-    let e : c .before .loop .i ≡ 16 = omega arith in
-    c .before .loop .inv .1 ∙ ap (total (markTerm (pixelIn (a .cell .now)))) e
+returns : tie.Need-returns
+returns c = search needs
 
 pub mark-spec : {M : Type 1} → statement M
-mark-spec =
-    tie.close
-    (tie.spec
-    Inv-loop
-    μ-loop
-    loop-holds
-    mark-term-requires
-    add-s
-    add-i
-    loop-less
-    loop-again
-    returns)
+mark-spec = tie.close (tie.spec slice-aggregate-sum sum-requires returns)

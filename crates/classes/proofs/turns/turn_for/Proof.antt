@@ -11,10 +11,10 @@ use Rattle.classes.proofs.turns.turn_for.Statement.{statement}
 use Rattle.classes.proofs.turns.turn_for.Tie as tie
 
 abbrev Inv-loop : tie.InvT-loop
-Inv-loop pic d cell t₀ t = (t ≤ 8) × ((k : ℕ) → k < t → turnedInto pic d cell k ≡ false)
+Inv-loop from cell t₀ t = (t ≤ 8) × ((k : ℕ) → k < t → turnedInto «from» cell k ≡ false)
 
 abbrev μ-loop : tie.MeasureT-loop
-μ-loop pic d cell t₀ t = 8 - t
+μ-loop from cell t₀ t = 8 - t
 
 loop-holds : tie.Need-loop-holds Inv-loop μ-loop
 loop-holds c = (search needs, below-none _)

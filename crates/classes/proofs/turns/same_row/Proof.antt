@@ -1,0 +1,55 @@
+-- The loop of `same_row`: the pixels so far are equal.
+use Rattle.classes.specs.Turned.{turnedAt, turnedRow}
+use Rattle.lists.proofs.Search.{all-not, all-of}
+use borrow.Author.Tests.{not-true, not-false}
+use borrow.Author.Count.{below-none, below-more}
+use mathlib.Core.Bool.{true}
+use Prim.Native.Nat.{ℕ, _≤_, _<_, _-_}
+use borrow.Author.Needs.{needs}
+use mathlib.Core.Path.{_≡_, sym, _∙_}
+use native.Mathlib.Omega.{arith}
+use Rattle.classes.proofs.turns.same_row.Statement.{statement}
+use Rattle.classes.proofs.turns.same_row.Tie as tie
+
+abbrev Inv-loop : tie.InvT-loop
+Inv-loop from cell t y x₀ x = (x ≤ 8) × ((k : ℕ) → k < x → turnedAt «from» cell t y k ≡ true)
+
+abbrev μ-loop : tie.MeasureT-loop
+μ-loop from cell t y x₀ x = 8 - x
+
+loop-holds : tie.Need-loop-holds Inv-loop μ-loop
+loop-holds c = (search needs, below-none _)
+
+same-at-requires : tie.Need-same-at-requires Inv-loop μ-loop
+same-at-requires c κs = search needs
+
+returns : tie.Need-returns Inv-loop μ-loop
+unfolding turnedRow
+returns c = sym (all-not _ 8 (c .before .before .before .loop .x) (omega arith) (sym (c .before .same-at .ensures) ∙ not-true _ (c .if1 .taken)))
+
+add-x : tie.Need-add-x Inv-loop μ-loop
+add-x c = search needs
+
+loop-less : tie.Need-loop-less Inv-loop μ-loop
+loop-less c = search needs
+
+loop-again : tie.Need-loop-again Inv-loop μ-loop
+loop-again c = (search needs, below-more _ _ (c .before .before .before .loop .inv .1) (sym (c .before .same-at .ensures) ∙ not-false _ (c .if1 .left)))
+
+returns-2 : tie.Need-returns-2 Inv-loop μ-loop
+unfolding turnedRow
+returns-2 c = sym (all-of _ 8 (λ k l. c .before .loop .inv .1 k (omega (arith, l))))
+
+pub same-row-spec : {M : Type 1} → statement M
+same-row-spec =
+    tie.close
+    (tie.spec
+    Inv-loop
+    μ-loop
+    loop-holds
+    same-at-requires
+    returns
+    add-x
+    loop-less
+    loop-again
+    returns-2)
