@@ -1,0 +1,92 @@
+-- The loop of `place_cells`: the progress of the cells placed so far.
+use Rattle.packer.proofs.Greedy.{grows}
+use Rattle.packer.proofs.Step.{start}
+use Rattle.packer.specs.Bounds.{Progress}
+use Prim.Native.Nat.{ℕ, _+_, _≤_, _-_}
+use borrow.Author.Needs.{needs}
+use native.Mathlib.Omega.{arith}
+use mathlib.Core.Path.{_≡_, subst}
+use Rattle.packer.proofs.place.place_cells.Statement.{statement}
+use Rattle.packer.proofs.place.place_cells.Tie as tie
+
+abbrev Inv-loop : tie.InvT-loop
+Inv-loop pic offset allowed cells₀ marks₀ map₀ n₀ c₀ cells marks map n c = (c ≤ 1280) × (n ≤ allowed) × Progress pic offset cells marks map n c
+
+abbrev μ-loop : tie.MeasureT-loop
+μ-loop pic offset allowed cells₀ marks₀ map₀ n₀ c₀ cells marks map n c = 1280 - c
+
+loop-holds : tie.Need-loop-holds Inv-loop μ-loop
+loop-holds c = let p = c .before .before .before .before .pre in (omega arith, omega arith, start _ _ _ _ _ (p .3) (p .4) (p .5))
+
+place-cell-requires : tie.Need-place-cell-requires Inv-loop μ-loop
+place-cell-requires c κs = search needs
+
+same-length : tie.Need-same-length Inv-loop μ-loop
+same-length c = search needs
+
+same-length-2 : tie.Need-same-length-2 Inv-loop μ-loop
+same-length-2 c = search needs
+
+same-length-3 : tie.Need-same-length-3 Inv-loop μ-loop
+same-length-3 c = search needs
+
+returns : tie.Need-returns Inv-loop μ-loop
+returns c = let w = c .before .before .before .before .before .before .before in
+    let l = w .before .before .before .before .before .loop in
+    let a = w .before .before .before .before .before .before .before .before .before .before .args in
+    let e = w .place-cell .ensures in (
+      e .0,
+      record {
+        going = λ h. absurd (omega (arith, h, c .if1 .taken));
+        over = λ h. omega (arith, e .1 .over h, grows (a .pic .now) (l .c + 1) 1280 (omega arith));
+      },
+    )
+
+add-c : tie.Need-add-c Inv-loop μ-loop
+add-c c = search needs
+
+loop-less : tie.Need-loop-less Inv-loop μ-loop
+loop-less c = search needs
+
+loop-again : tie.Need-loop-again Inv-loop μ-loop
+loop-again c = (omega arith, c .if1 .left, c .before .before .before .before .before .before .before .place-cell .ensures .1 .going (c .if1 .left))
+
+same-length-4 : tie.Need-same-length-4 Inv-loop μ-loop
+same-length-4 c = search needs
+
+same-length-5 : tie.Need-same-length-5 Inv-loop μ-loop
+same-length-5 c = search needs
+
+same-length-6 : tie.Need-same-length-6 Inv-loop μ-loop
+same-length-6 c = search needs
+
+returns-2 : tie.Need-returns-2 Inv-loop μ-loop
+returns-2 c = let l = c .before .loop in
+    let a = c .before .before .before .before .before .before .args in
+    let e : l .c ≡ 1280 = omega arith in (
+      omega arith,
+      record {
+        going = λ h. subst (λ (m : ℕ). Progress (a .pic .now) (a .offset) (l .cells) (l .marks) (l .map) (l .n) m) e (l .inv .2);
+        over = λ h. absurd (omega (arith, h));
+      },
+    )
+
+pub place-cells-spec : {M : Type 1} → statement M
+place-cells-spec =
+    tie.close
+    (tie.spec
+    Inv-loop
+    μ-loop
+    loop-holds
+    place-cell-requires
+    same-length
+    same-length-2
+    same-length-3
+    returns
+    add-c
+    loop-less
+    loop-again
+    same-length-4
+    same-length-5
+    same-length-6
+    returns-2)

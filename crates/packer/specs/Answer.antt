@@ -1,0 +1,63 @@
+-- Packing: the answer, what the lent map and definitions hold afterwards, and what demand 3 asks of both.
+use mathlib.Core.Path.{_≡_}
+use mathlib.Core.List.{List}
+use mathlib.Core.Bool.{Bool, cond, _&&_}
+use Prim.Native.Nat.{ℕ, _≤_}
+use lib.ListN.{length}
+use lib.Dec.{eqb, leb}
+use Rattle.reply.specs.declared.Reply.{Reply}
+use Rattle.reply.specs.declared.Reply.the-variants.{Done, BufferLength, TooManyTiles, PackingBounds}
+use Rattle.reply.specs.Reply.{replyNumber}
+use Rattle.packer.specs.declared.Packing.{Packing}
+use Rattle.packer.specs.Sheet.{named, Bytes, SetIn, DrawsAlways, Draws}
+use Rattle.packer.specs.Greedy.{tileCount, packedMap, packedDefs}
+
+-- 3, a lent buffer of the wrong length; 12, allowed above 256, or offset above 15
+unfoldable pub judged : ℕ → ℕ → ℕ → ℕ → ℕ → Reply
+judged pic map defs allowed offset =
+    cond (eqb pic 40960 && eqb map 2560 && eqb defs 8192) (cond (leb allowed 256 && leb offset 15) Done PackingBounds) BufferLength
+
+-- a packing is done
+abbrev pub isDone : Reply → Bool
+isDone r = eqb (replyNumber r) 0
+
+-- 11 comes after them, where there are more than allowed; a refused packing counts 0
+unfoldable pub answered : ℕ → ℕ → Packing
+answered n allowed = cond (leb n allowed) (record { reply = Done; count = n }) (record { reply = TooManyTiles; count = 0 })
+
+-- the answer, for a map and definitions of these lengths
+unfoldable pub packAnswer : List ℕ → ℕ → ℕ → ℕ → ℕ → Packing
+packAnswer pic allowed offset map defs =
+    let early = judged (length pic) map defs allowed offset in
+    cond (isDone early) (answered (tileCount pic) allowed) (record { reply = early; count = 0 })
+
+-- no map naming at most the number allowed draws the picture
+abbrev pub NoneDraws : List ℕ → ℕ → ℕ → Type 0
+NoneDraws pic allowed offset = (map defs : List ℕ) → Draws pic offset map defs → named map ≤ allowed → ⊥
+
+-- an accepted packing draws the picture, its count is the number of tiles its map names, and none that draws names fewer
+pub record Fewest (pic : List ℕ) (offset count : ℕ) (map defs : List ℕ) : Type 0 where
+  pub draws : DrawsAlways pic offset map defs
+  pub counts : count ≡ named map
+  pub fewest : (others theirs : List ℕ) → Draws pic offset others theirs → count ≤ named others
+
+-- a map and definitions are set in a bank in some way
+pub record Setting (map defs : List ℕ) : Type 0 where
+  pub bank : List ℕ
+  pub mapBase : ℕ
+  pub defBase : ℕ
+  pub set : SetIn map defs bank mapBase defBase
+
+-- a packing: its answer, the map and the definitions before (map, defs) and after (map′, defs′)
+pub record Packs (pic : List ℕ) (allowed offset : ℕ) (map defs map′ defs′ : List ℕ) (answer : Packing) : Type 0 where
+  pub answer-is : answer ≡ packAnswer pic allowed offset (length map) (length defs)
+  -- a refused packing touches neither
+  pub map-is : map′ ≡ cond (isDone (answer .reply)) (packedMap pic offset) map
+  pub defs-is : defs′ ≡ cond (isDone (answer .reply)) (packedDefs pic) defs
+  pub accepted : answer .reply ≡ Done → Fewest pic offset (answer .count) map′ defs′
+  -- refused 11 exactly when none draws
+  pub refused : answer .reply ≡ TooManyTiles → NoneDraws pic allowed offset
+  pub only : length pic ≡ 40960 → length map ≡ 2560 → length defs ≡ 8192 → allowed ≤ 256 → offset ≤ 15 → NoneDraws pic allowed offset
+      → answer .reply ≡ TooManyTiles
+  -- there is such a way for every map and definitions
+  pub settings : (others theirs : List ℕ) → length others ≡ 2560 → length theirs ≡ 8192 → Bytes others → Bytes theirs → Setting others theirs
