@@ -1,0 +1,4 @@
+pub mod Modes
+pub mod Scrolls
+pub mod Addresses
+pub mod Bounds

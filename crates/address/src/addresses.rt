@@ -1,0 +1,83 @@
+// The bytes of the bank. Rows and columns are those of the bank's picture, after the scroll, and in their bounds, so that an
+// address is inside the bank.
+ghost use mathlib.Core.Path.{_≡_};
+ghost use Prim.Native.Nat.{_<_};
+ghost use Rattle.address.specs.Addresses.{byteAddress, cellAddress, bitmapAddress, attributeAddress, wideAddress, wideAttribute, loresAddress, bitOf};
+use crate::modes::Mode;
+
+// Column c of 32 of a row of 192.
+pub fn byte_address(y: usize, column: usize) -> usize
+    requires { ⌜ (y < 192) × (column < 32) ⌝ }
+    ensures { λ r. ⌜ (r ≡ byteAddress y column) × (r < 0x1800) ⌝ }
+{
+    y / 64 * 2048 + y % 8 * 256 + y / 8 % 8 * 32 + column
+}
+
+fn cell_address(y: usize, column: usize) -> usize
+    requires { ⌜ (y < 192) × (column < 32) ⌝ }
+    ensures { λ r. ⌜ (r ≡ cellAddress y column) × (r < 0x1B00) ⌝ }
+{
+    0x1800 + y / 8 * 32 + column
+}
+
+pub fn bitmap_address(mode: Mode, y: usize, column: usize) -> usize
+    requires { ⌜ (y < 192) × (column < 32) ⌝ }
+    ensures { λ r. ⌜ (r ≡ bitmapAddress mode y column) × (r < 16384) ⌝ }
+{
+    let at = byte_address(y, column);
+    match mode {
+        Mode::Lores => at,
+        Mode::Standard => at,
+        Mode::Second => at + 0x2000,
+        Mode::HighColour => at,
+        Mode::HighResolution => at,
+        Mode::Missing => at,
+    }
+}
+
+pub fn attribute_address(mode: Mode, y: usize, column: usize) -> usize
+    requires { ⌜ (y < 192) × (column < 32) ⌝ }
+    ensures { λ r. ⌜ (r ≡ attributeAddress mode y column) × (r < 16384) ⌝ }
+{
+    let at = cell_address(y, column);
+    match mode {
+        Mode::Lores => at,
+        Mode::Standard => at,
+        Mode::Second => at + 0x2000,
+        Mode::HighColour => byte_address(y, column) + 0x2000,
+        Mode::HighResolution => at,
+        Mode::Missing => at,
+    }
+}
+
+// Mode 6: column c of 64.
+pub fn wide_address(y: usize, column: usize) -> usize
+    requires { ⌜ (y < 192) × (column < 64) ⌝ }
+    ensures { λ r. ⌜ (r ≡ wideAddress y column) × (r < 16384) ⌝ }
+{
+    byte_address(y, column / 2) + column % 2 * 0x2000
+}
+
+// Mode 6: the attribute of every column, from the port.
+pub fn wide_attribute(port: u8) -> u8
+    ensures { λ r. ⌜ r ≡ wideAttribute port ⌝ }
+{
+    let ink = port / 8 % 8;
+    64 + (7 - ink) * 8 + ink
+}
+
+// LoRes: column c of 128 of a row of 96.
+pub fn lores_address(row: usize, column: usize) -> usize
+    requires { ⌜ (row < 96) × (column < 128) ⌝ }
+    ensures { λ r. ⌜ (r ≡ loresAddress row column) × (r < 16384) ⌝ }
+{
+    let at = row * 128 + column;
+    if 48 <= row { at + 0x800 } else { at }
+}
+
+// A pixel of a byte; the leftmost is bit 7.
+pub fn bit_of(b: u8, x: usize) -> u8
+    ensures { λ r. ⌜ r ≡ bitOf b x ⌝ }
+{
+    (b >> (7 - x % 8)) % 2
+}
