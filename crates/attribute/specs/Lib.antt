@@ -1,0 +1,4 @@
+pub mod Schemes
+pub mod Index
+pub mod Colours
+pub mod Bounds

@@ -1,0 +1,104 @@
+// The colours of an attribute and of the border, as dots.
+ghost use mathlib.Core.Path.{_≡_};
+ghost use mathlib.Core.Bool.{true, false};
+ghost use Prim.Native.Nat.{_≤_, _<_};
+ghost use Rattle.state.specs.Lawful.{isMask};
+ghost use Rattle.attribute.specs.Index.{paperIndex, paperless};
+ghost use Rattle.attribute.specs.Colours.{colourAt, groundColour, bitColour, bitDot, borderNumber, borderDot};
+ghost use Rattle.attribute.specs.Bounds.{indices, Solid};
+use crate::index::border_index;
+use crate::index::ink_index;
+use crate::index::is_ink;
+use crate::index::is_paperless;
+use crate::index::paper_index;
+use crate::index::wide_border_index;
+use crate::schemes::Colours;
+use crate::schemes::Scheme;
+
+fn colour_at(k: Scheme, pal: &[u16; 256], plus: &[u8; 64], i: usize) -> u16
+    requires { ⌜ i < indices k ⌝ }
+    ensures { λ r. ⌜ r ≡ colourAt k (now (pal .entry)) (now (plus .entry)) i ⌝ }
+{
+    match k {
+        Scheme::Plain => pal[i],
+        Scheme::Next => pal[i],
+        Scheme::Plus => colour::plus_colour(plus[i]),
+    }
+}
+
+fn paper_colour(l: Colours, pal: &[u16; 256], plus: &[u8; 64], a: u8) -> u16
+    requires { ⌜ Solid l ⌝ }
+    ensures { λ r. ⌜ r ≡ groundColour l (now (pal .entry)) (now (plus .entry)) (paperIndex (l .scheme) (l .mask) a) ⌝ }
+{
+    let k = l.scheme;
+    if is_paperless(k, l.mask) {
+        l.fallback
+    } else {
+        colour_at(k, pal, plus, paper_index(k, l.mask, a))
+    }
+}
+
+fn bit_colour(l: Colours, pal: &[u16; 256], plus: &[u8; 64], a: u8, bit: u8) -> u16
+    requires { ⌜ Solid l ⌝ }
+    ensures { λ r. ⌜ r ≡ bitColour l (now (pal .entry)) (now (plus .entry)) a bit ⌝ }
+{
+    let k = l.scheme;
+    if is_ink(k, l.swap, a, bit) {
+        colour_at(k, pal, plus, ink_index(k, l.mask, a))
+    } else {
+        paper_colour(l, pal, plus, a)
+    }
+}
+
+// The dot of a bit of the bitmap, before the clip.
+pub fn bit_dot(l: Colours, pal: &[u16; 256], plus: &[u8; 64], a: u8, bit: u8) -> u16
+    requires { ⌜ Solid l ⌝ }
+    ensures { λ r. ⌜ r ≡ bitDot l (now (pal .entry)) (now (plus .entry)) a bit ⌝ }
+{
+    surface::show(l.clear, bit_colour(l, pal, plus, a, bit))
+}
+
+fn border_number(k: Scheme, mask: u8, mode6: bool, a: u8, border: u8) -> usize
+    requires { ⌜ (isMask mask ≡ true) × (paperless k mask ≡ false) × (border ≤ 7) ⌝ }
+    ensures { λ r. ⌜ (r ≡ borderNumber k mask mode6 a border) × (r < indices k) ⌝ }
+{
+    if mode6 {
+        wide_border_index(k, mask, a)
+    } else {
+        border_index(k, border)
+    }
+}
+
+fn border_colour(
+    l: Colours,
+    pal: &[u16; 256],
+    plus: &[u8; 64],
+    mode6: bool,
+    a: u8,
+    border: u8,
+) -> u16
+    requires { ⌜ (Solid l) × (border ≤ 7) ⌝ }
+    ensures { λ r. ⌜ r ≡ groundColour l (now (pal .entry)) (now (plus .entry)) (borderNumber (l .scheme) (l .mask) mode6 a border) ⌝ }
+{
+    let k = l.scheme;
+    if is_paperless(k, l.mask) {
+        l.fallback
+    } else {
+        colour_at(k, pal, plus, border_number(k, l.mask, mode6, a, border))
+    }
+}
+
+// The dot of the border; a is mode 6's attribute.
+pub fn border_dot(
+    l: Colours,
+    pal: &[u16; 256],
+    plus: &[u8; 64],
+    mode6: bool,
+    a: u8,
+    border: u8,
+) -> u16
+    requires { ⌜ (Solid l) × (border ≤ 7) ⌝ }
+    ensures { λ r. ⌜ r ≡ borderDot l (now (pal .entry)) (now (plus .entry)) mode6 a border ⌝ }
+{
+    surface::show(l.clear, border_colour(l, pal, plus, mode6, a, border))
+}

@@ -1,0 +1,15 @@
+// What colour an attribute gives: ink, paper and border index in plain colours, ULANext and ULAplus, flash, and the dots of them.
+mod colours;
+mod index;
+mod schemes;
+
+pub use colours::bit_dot;
+pub use colours::border_dot;
+pub use index::border_index;
+pub use index::ink_index;
+pub use index::is_ink;
+pub use index::paper_index;
+pub use index::wide_border_index;
+pub use schemes::Colours;
+pub use schemes::Scheme;
+pub use schemes::colours_of;
