@@ -1,7 +1,7 @@
 // The bytes of the bank. Rows and columns are those of the bank's picture, after the scroll, and in their bounds, so that an
-// address is inside the bank.
+// address is inside the bank, with the 32 columns of its row.
 ghost use mathlib.Core.Path.{_≡_};
-ghost use Prim.Native.Nat.{_<_};
+ghost use Prim.Native.Nat.{_+_, _≤_, _<_};
 ghost use Rattle.address.specs.Addresses.{byteAddress, cellAddress, bitmapAddress, attributeAddress, wideAddress, wideAttribute, loresAddress, bitOf};
 use crate::modes::Mode;
 
@@ -22,7 +22,7 @@ fn cell_address(y: usize, column: usize) -> usize
 
 pub fn bitmap_address(mode: Mode, y: usize, column: usize) -> usize
     requires { ⌜ (y < 192) × (column < 32) ⌝ }
-    ensures { λ r. ⌜ (r ≡ bitmapAddress mode y column) × (r < 16384) ⌝ }
+    ensures { λ r. ⌜ (r ≡ bitmapAddress mode y column) × (r ≤ 16352 + column) ⌝ }
 {
     let at = byte_address(y, column);
     match mode {
@@ -37,7 +37,7 @@ pub fn bitmap_address(mode: Mode, y: usize, column: usize) -> usize
 
 pub fn attribute_address(mode: Mode, y: usize, column: usize) -> usize
     requires { ⌜ (y < 192) × (column < 32) ⌝ }
-    ensures { λ r. ⌜ (r ≡ attributeAddress mode y column) × (r < 16384) ⌝ }
+    ensures { λ r. ⌜ (r ≡ attributeAddress mode y column) × (r ≤ 16352 + column) ⌝ }
 {
     let at = cell_address(y, column);
     match mode {

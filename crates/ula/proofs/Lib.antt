@@ -1,0 +1,4 @@
+pub mod Parts
+pub mod Fills
+pub mod Clips
+pub mod Shows

@@ -1,0 +1,77 @@
+-- A row of the display by its mode and its clip, and a line with its border.
+use Prim.Native.Nat.{ℕ, _+_, _-_, _/_, _<_}
+use mathlib.Core.Path.{_≡_, refl, sym, ap, _∙_}
+use mathlib.Core.List.{List, _++_}
+use mathlib.Core.Bool.{Bool, true, false, _&&_}
+use native.Mathlib.Omega.{arith}
+use lib.ListN.{getD, take, drop}
+use borrow.Author.Tests.{le-leb, lt-leb}
+use Rattle.lists.specs.Tab.{tab}
+use Rattle.lists.proofs.Tab.{tab-ext, tab-patch, getD-tab}
+use Rattle.lists.proofs.Cond.{if-true, if-false}
+use Rattle.surface.specs.Dots.{clipped}
+use Rattle.address.specs.Modes.{isLores, isWide}
+use Rattle.attribute.specs.declared.schemes.Colours.{Colours}
+use Rattle.ula.specs.Display.{pixelDot, wideDot, loresDot, modeDot, displayDot, inDots, lineDot}
+use Rattle.ula.specs.declared.places.Place.{Place}
+use Rattle.ula.specs.declared.places.UlaLine.{UlaLine}
+
+module _ (p : Place) (l : Colours) (pal plus bank : List ℕ) where
+  pub shows-lores : isLores (p .mode) ≡ true → tab (λ (d : ℕ). loresDot p l pal bank (d / 2)) 512 ≡ tab (modeDot p l pal plus bank) 512
+  unfolding modeDot
+  shows-lores a = tab-ext _ _ 512 (λ d g. sym (if-true _ _ _ a))
+
+  pub shows-wide : isLores (p .mode) ≡ false → isWide (p .mode) ≡ true → tab (wideDot p l pal plus bank) 512 ≡ tab (modeDot p l pal plus bank) 512
+  unfolding modeDot
+  shows-wide a b = tab-ext _ _ 512 (λ d g. sym (if-false _ _ _ a ∙ if-true _ _ _ b))
+
+  pub shows-pixels : isLores (p .mode) ≡ false → isWide (p .mode) ≡ false → tab (λ (d : ℕ). pixelDot p l pal plus bank (d / 2)) 512 ≡ tab (modeDot p l pal plus bank) 512
+  unfolding modeDot
+  shows-pixels a b = tab-ext _ _ 512 (λ d g. sym (if-false _ _ _ a ∙ if-false _ _ _ b))
+
+  pub shows-clipped : (row : List ℕ) → p .visible ≡ true → row ≡ tab (modeDot p l pal plus bank) 512
+      → tab (λ (d : ℕ). clipped (d / 2) (p .left) (p .right) (getD row d 0)) 512 ≡ tab (displayDot p l pal plus bank) 512
+  unfolding displayDot
+  shows-clipped row v e =
+      tab-ext _ _ 512 (λ d g.
+      ap (λ (r : List ℕ). clipped (d / 2) (p .left) (p .right) (getD r d 0)) e
+      ∙ ap (clipped (d / 2) (p .left) (p .right)) (getD-tab (modeDot p l pal plus bank) 512 d g)
+      ∙ sym (if-true _ _ _ v))
+
+  pub shows-nothing : p .visible ≡ false → tab (λ (d : ℕ). 512) 512 ≡ tab (displayDot p l pal plus bank) 512
+  unfolding displayDot
+  shows-nothing v = tab-ext _ _ 512 (λ d g. sym (if-false _ _ _ v))
+
+module _ (u : UlaLine) (pal plus bank : List ℕ) where
+  pub line-off : (old : List ℕ) (n : ℕ) → n ≡ 640 → u .on ≡ false → old ≡ tab (λ (k : ℕ). 512) n → old ≡ tab (lineDot u pal plus bank) 640
+  unfolding lineDot
+  line-off old n e o p = rw (p, e) (tab-ext _ _ 640 (λ k g. sym (if-false _ _ _ o)))
+
+  pub line-border : (old : List ℕ) (n : ℕ) → n ≡ 640 → u .on ≡ true → u .display ≡ false → old ≡ tab (λ (k : ℕ). u .border) n → old ≡ tab (lineDot u pal plus bank) 640
+  unfolding lineDot
+  line-border old n e o d p =
+      rw (p, e) (tab-ext _ _ 640 (λ k g. sym (if-true _ _ _ o ∙ if-false _ _ _ (ap (λ (b : Bool). b && inDots k) d))))
+
+  in-border : (k : ℕ) → u .on ≡ true → inDots k ≡ false → u .border ≡ lineDot u pal plus bank k
+  unfolding lineDot
+  in-border k o t = sym (if-true _ _ _ o ∙ if-false _ _ _ (and-off (u .display) t))
+    where
+      and-off : (a : Bool) {b : Bool} → b ≡ false → (a && b) ≡ false
+      and-off true e = e
+      and-off false e = refl
+
+  in-display : (k : ℕ) → k < 512 → u .on ≡ true → u .display ≡ true → displayDot (u .place) (u .colours) pal plus bank k ≡ lineDot u pal plus bank (64 + k)
+  unfolding lineDot
+  in-display k h o d =
+      let e : k ≡ 64 + k - 64 = omega arith in
+      let t : (u .display && inDots (64 + k)) ≡ true = rw (d, le-leb 32 ((64 + k) / 2) (omega arith), le-leb ((64 + k) / 2) 287 (omega arith)) in
+      ap (displayDot (u .place) (u .colours) pal plus bank) e ∙ sym (if-true _ _ _ o ∙ if-true _ _ _ t)
+
+  pub line-display : (old new : List ℕ) (n : ℕ) → n ≡ 640 → u .on ≡ true → u .display ≡ true → old ≡ tab (λ (k : ℕ). u .border) n
+      → new ≡ tab (displayDot (u .place) (u .colours) pal plus bank) 512 → take 64 old ++ (new ++ drop 512 (drop 64 old)) ≡ tab (lineDot u pal plus bank) 640
+  line-display old new n e o d p q =
+      rw (p, q, e)
+      (tab-patch (λ (k : ℕ). u .border) (displayDot (u .place) (u .colours) pal plus bank) (lineDot u pal plus bank) 64 512 64
+      (λ k h. in-border k o (rw (lt-leb 32 (k / 2) (omega arith))))
+      (λ k h. in-display k h o d)
+      (λ k h. in-border (576 + k) o (rw (le-leb 32 ((576 + k) / 2) (omega arith), lt-leb ((576 + k) / 2) 287 (omega arith)))))

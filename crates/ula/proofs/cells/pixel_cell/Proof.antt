@@ -1,0 +1,52 @@
+-- The cell's byte and attribute choose its two dots; they are the pixels of the display that it covers.
+use mathlib.Core.Path.{refl, _∙_}
+use Rattle.ula.proofs.Fills.{pixel-fill}
+use borrow.Author.Needs.{needs}
+use Rattle.ula.proofs.cells.pixel_cell.Statement.{statement}
+use Rattle.ula.proofs.cells.pixel_cell.Tie as tie
+
+add-column : tie.Need-add-column
+add-column c = search needs
+
+add-at : tie.Need-add-at
+add-at c = search needs
+
+add-from : tie.Need-add-from
+add-from c = search needs
+
+shared-slice-read-a : tie.Need-shared-slice-read-a
+shared-slice-read-a c = search needs
+
+shared-slice-read-b : tie.Need-shared-slice-read-b
+shared-slice-read-b c = search needs
+
+bit-dot-requires : tie.Need-bit-dot-requires
+bit-dot-requires c κs = search needs
+
+bit-dot-requires-2 : tie.Need-bit-dot-requires-2
+bit-dot-requires-2 c κs = search needs
+
+pixels-requires : tie.Need-pixels-requires
+pixels-requires c κs = search needs
+
+same-length : tie.Need-same-length
+same-length c = search needs
+
+returns : tie.Need-returns
+returns c = let s = c .before .before .before .before .before .before .before .before .before .before .before in
+    c .before .before .pixels .ensures ∙ pixel-fill _ _ _ _ _ (s .args .bits) (s .args .cells) _ _ _ _ _ (search needs) (search needs) (s .pre .1) (s .pre .2) refl refl (search needs) (search needs)
+
+pub pixel-cell-spec : {M : Type 1} → statement M
+pixel-cell-spec =
+    tie.close
+    (tie.spec
+    add-column
+    add-at
+    add-from
+    shared-slice-read-a
+    shared-slice-read-b
+    bit-dot-requires
+    bit-dot-requires-2
+    pixels-requires
+    same-length
+    returns)

@@ -1,0 +1,47 @@
+-- Each field is what its call ensures; the line is below 256.
+use Rattle.ula.specs.Places.{placeOf}
+use mathlib.Core.Path.{_∙_, ap}
+use Rattle.ula.proofs.Parts.{line-of}
+use native.Mathlib.Omega.{arith}
+use borrow.Author.Tests.{leb-true}
+use borrow.Author.Needs.{needs}
+use Rattle.ula.proofs.places.ula_line.Statement.{statement}
+use Rattle.ula.proofs.places.ula_line.Tie as tie
+
+display-line-requires : tie.Need-display-line-requires
+display-line-requires c κs = search needs
+
+place-of-requires : tie.Need-place-of-requires
+place-of-requires c κs = let s = c .before .before .before .before in omega (arith, leb-true (s .args .line .0) 255 (s .pre .1))
+
+colours-of-requires : tie.Need-colours-of-requires
+colours-of-requires c κs = search needs
+
+border-of-requires : tie.Need-border-of-requires
+border-of-requires c κs = search needs
+
+ula-on-requires : tie.Need-ula-on-requires
+ula-on-requires c κs = search needs
+
+in-display-requires : tie.Need-in-display-requires
+in-display-requires c κs = search needs
+
+returns : tie.Need-returns
+returns c = let b = c .before .before .before .before in
+    let s = b .before .before .before .before .before .before .args in (
+      line-of _ _ _ _ _ _ _ _ (c .before .ula-on .ensures) (c .in-display .ensures) (c .before .before .border-of .ensures)
+          (b .before .place-of .ensures .0 ∙ ap (placeOf (s .s .ula) (s .s .ports) (s .s .ulaclip)) (b .before .before .display-line .ensures)) (b .colours-of .ensures .0),
+      record { place = b .before .place-of .ensures .1; colours = b .colours-of .ensures .1 },
+    )
+
+pub ula-line-spec : {M : Type 1} → statement M
+ula-line-spec =
+    tie.close
+    (tie.spec
+    display-line-requires
+    place-of-requires
+    colours-of-requires
+    border-of-requires
+    ula-on-requires
+    in-display-requires
+    returns)

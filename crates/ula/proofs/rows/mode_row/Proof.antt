@@ -1,0 +1,71 @@
+-- The row of the mode that the place names.
+use Rattle.ula.proofs.Fills.{wide-dots}
+use Rattle.ula.proofs.Shows.{shows-lores, shows-wide, shows-pixels}
+use mathlib.Core.Path.{sym, _∙_}
+use borrow.Author.Needs.{needs}
+use Rattle.ula.proofs.rows.mode_row.Statement.{statement}
+use Rattle.ula.proofs.rows.mode_row.Tie as tie
+
+is-lores-requires : tie.Need-is-lores-requires
+is-lores-requires c κs = search needs
+
+lores-row-requires : tie.Need-lores-row-requires
+lores-row-requires c κs = search needs
+
+is-wide-requires : tie.Need-is-wide-requires
+is-wide-requires c κs = search needs
+
+bit-dot-requires : tie.Need-bit-dot-requires
+bit-dot-requires c κs = search needs
+
+bit-dot-requires-2 : tie.Need-bit-dot-requires-2
+bit-dot-requires-2 c κs = search needs
+
+wide-row-requires : tie.Need-wide-row-requires
+wide-row-requires c κs = search needs
+
+pixel-row-requires : tie.Need-pixel-row-requires
+pixel-row-requires c κs = search needs
+
+same-length : tie.Need-same-length
+same-length c = search needs
+
+returns : tie.Need-returns
+returns c = let b = c .before .before .before .before in
+    c .before .before .lores-row .ensures ∙ shows-lores _ _ _ _ _ (sym (b .before .is-lores .ensures) ∙ b .if1 .taken)
+
+same-length-2 : tie.Need-same-length-2
+same-length-2 c = search needs
+
+returns-2 : tie.Need-returns-2
+returns-2 c = let d = c .before .before .before .before in
+    let w = d .before .before in
+    let b = w .before .before in
+    c .before .before .wide-row .ensures ∙ wide-dots _ _ _ _ _ _ _ (d .before .bit-dot .ensures) (d .bit-dot2 .ensures)
+    ∙ shows-wide _ _ _ _ _ (sym (b .before .is-lores .ensures) ∙ b .if1 .left) (sym (w .before .is-wide .ensures) ∙ w .if2 .taken)
+
+same-length-3 : tie.Need-same-length-3
+same-length-3 c = search needs
+
+returns-3 : tie.Need-returns-3
+returns-3 c = let w = c .before .before .before .before in
+    let b = w .before .before in
+    c .before .before .pixel-row .ensures ∙ shows-pixels _ _ _ _ _ (sym (b .before .is-lores .ensures) ∙ b .if1 .left) (sym (w .before .is-wide .ensures) ∙ w .if2 .left)
+
+pub mode-row-spec : {M : Type 1} → statement M
+mode-row-spec =
+    tie.close
+    (tie.spec
+    is-lores-requires
+    lores-row-requires
+    is-wide-requires
+    bit-dot-requires
+    bit-dot-requires-2
+    wide-row-requires
+    pixel-row-requires
+    same-length
+    returns
+    same-length-2
+    returns-2
+    same-length-3
+    returns-3)

@@ -1,0 +1,26 @@
+-- The dots of what the line shows, in the state's palette.
+use Rattle.ula.proofs.Parts.{dots-of}
+use borrow.Author.Needs.{needs}
+use Rattle.ula.proofs.rows.ula_row.Statement.{statement}
+use Rattle.ula.proofs.rows.ula_row.Tie as tie
+
+ula-palette-requires : tie.Need-ula-palette-requires
+ula-palette-requires c κs = search needs
+
+ula-line-requires : tie.Need-ula-line-requires
+ula-line-requires c κs = search needs
+
+line-row-requires : tie.Need-line-row-requires
+line-row-requires c κs = search needs
+
+same-length : tie.Need-same-length
+same-length c = search needs
+
+returns : tie.Need-returns
+returns c = let u = c .before .before .before .before .before .before in
+    dots-of _ _ _ _ _ _ (c .before .before .line-row .ensures) (u .ula-line .ensures .0) (u .before .before .before .ula-palette .ensures)
+
+pub ula-row-spec : {M : Type 1} → statement M
+ula-row-spec =
+    tie.close
+    (tie.spec ula-palette-requires ula-line-requires line-row-requires same-length returns)

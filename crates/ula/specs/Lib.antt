@@ -1,0 +1,4 @@
+pub mod Places
+pub mod Display
+pub mod Rows
+pub mod Bounds

@@ -1,0 +1,9 @@
+// The ULA's 640 dots of a line: what the line shows of the state, the display filled by cells, and the border around it.
+mod cells;
+mod places;
+mod rows;
+
+pub use places::Place;
+pub use places::UlaLine;
+pub use places::ula_palette;
+pub use rows::ula_row;
