@@ -14,7 +14,7 @@ use Rattle.lists.proofs.Cond.{if-true, if-false}
 use Rattle.surface.specs.Dots.{clipped}
 
 -- a list is the row of its entries
-entries : (xs : List ℕ) → xs ≡ tab (λ (k : ℕ). getD xs k 0) (length xs)
+pub entries : (xs : List ℕ) → xs ≡ tab (λ (k : ℕ). getD xs k 0) (length xs)
 entries xs =
     let f : ℕ → ℕ = λ (k : ℕ). getD xs k 0 in
     ext-getD 0 xs (tab f (length xs)) (sym (length-tab f (length xs))) (λ i h. sym (getD-tab f (length xs) i h))

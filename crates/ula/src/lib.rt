@@ -6,4 +6,5 @@ mod rows;
 pub use places::Place;
 pub use places::UlaLine;
 pub use places::ula_palette;
+pub use rows::paint;
 pub use rows::ula_row;

@@ -73,7 +73,7 @@ fn lores_row(p: Place, l: Colours, pal: &[u16; 256], bank: &[u8], out: &mut [u16
     }
 }
 
-fn paint(v: u16, out: &mut [u16])
+pub fn paint(v: u16, out: &mut [u16])
     ensures { λ r. ⌜ now (out .exit) ≡ tab (λ (k : ℕ). v) (length (now (out .entry))) ⌝ }
 {
     let mut i = 0;

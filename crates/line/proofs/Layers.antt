@@ -1,0 +1,106 @@
+-- The layers of a line, joined: tile dots read from the row of codes, the composed line, and the fallback over it.
+use Prim.Native.Nat.{ℕ, _+_, _/_, _%_, _≤_, _<_}
+use mathlib.Core.Path.{_≡_, refl, sym, ap, _∙_}
+use mathlib.Core.List.{List, _++_}
+use mathlib.Core.Bool.{Bool, true, false, cond, _||_}
+use native.Mathlib.Omega.{arith}
+use lib.ListN.{getD, set, length}
+use lib.Seq.{getD-set-other}
+use lib.Dec.{eqb}
+use Rattle.lists.specs.Tab.{tab}
+use Rattle.lists.proofs.Tab.{tab-ext, getD-tab}
+use Rattle.lists.proofs.Cond.{if-true, if-false}
+use Rattle.colour.specs.Bytes.{widened}
+use Rattle.state.specs.Bits.{ulaOn}
+use Rattle.state.specs.declared.State.{State}
+use Rattle.surface.specs.Dots.{clipped, above}
+use Rattle.surface.specs.declared.lines.LineNumber.{LineNumber}
+use Rattle.ula.specs.Display.{ulaDot}
+use Rattle.ula.proofs.Clips.{entries}
+use Rattle.tilemap.specs.Index.{widthOf}
+use Rattle.tilemap.specs.Dots.{acrossOf, tileRow, tileDot}
+use Rattle.tilemap.specs.Setup.{windowOf, layoutOf}
+use Rattle.tilemap.specs.declared.rule.Layout.{Layout}
+use Rattle.tilemap.specs.declared.setup.Window.{Window}
+use Rattle.tilemap.proofs.Rows.{row-at}
+use Rattle.line.specs.Compose.{tileColour, stencilled, composed}
+use Rattle.line.specs.Lines.{tilePalette, stencilOn, tileDotOf, composedDot, composedLine, finished, lineDot, drawnLine}
+
+-- what a row still holds after a store below it
+pub rest-step : (out old : List ℕ) (k a : ℕ) → ((j : ℕ) → k ≤ j → getD out j 0 ≡ getD old j 0) → (j : ℕ) → k + 1 ≤ j → getD (set out k a) j 0 ≡ getD old j 0
+rest-step out old k a h j g = getD-set-other out k j a 0 (λ e. omega arith) ∙ h j (omega arith)
+
+-- a dot's place in the row of codes
+pub across-within : (wide : Bool) (k : ℕ) → k < 640 → acrossOf wide k < widthOf wide
+across-within true k h = omega arith
+across-within false k h = omega arith
+
+pub across-below : (wide : Bool) (k : ℕ) → k < 640 → acrossOf wide k < 640
+across-below true k h = h
+across-below false k h = omega arith
+
+-- where no tile shows, the ULA's dot stays, and nothing is left of it under a stencil
+bare : (pal : List ℕ) (u : ℕ) → u ≡ composed false pal u 512
+unfolding composed tileColour above
+bare pal u = refl
+
+none-left : (b : Bool) (x : ℕ) → 512 ≡ cond (b || true) 512 x
+none-left true x = refl
+none-left false x = refl
+
+stencilled-bare : (pal : List ℕ) (u : ℕ) → 512 ≡ composed true pal u 512
+unfolding composed tileColour stencilled
+stencilled-bare pal u = none-left (eqb u 512) _
+
+module _ (t : Layout) (w : Window) (clear : ℕ) (stencil : Bool) (pal bank out : List ℕ) (y : ℕ) where
+  abbrev laid : ℕ → ℕ
+  laid k = composed stencil pal (getD out k 0) (tileDot w t clear bank y k)
+
+  pub layered-on : (row rest : List ℕ) (n : ℕ) → w .on ≡ true → row ≡ tileRow t n bank y ++ rest → n ≡ clear
+      → tab (λ (k : ℕ). composed stencil pal (getD out k 0) (clipped (k / 2) (w .left) (w .right) (getD row (t .x % 8 + acrossOf (t .wide) k) 0))) 640
+      ≡ tab laid 640
+  unfolding tileDot
+  layered-on row rest n o q m =
+      let e : row ≡ tileRow t clear bank y ++ rest = q ∙ ap (λ (v : ℕ). tileRow t v bank y ++ rest) m in
+      tab-ext _ _ 640 (λ k h.
+      ap (composed stencil pal (getD out k 0))
+      (ap (clipped (k / 2) (w .left) (w .right))
+      (ap (λ (r : List ℕ). getD r (t .x % 8 + acrossOf (t .wide) k) 0) e ∙ row-at t clear bank y rest (acrossOf (t .wide) k) (across-within (t .wide) k h))
+      ∙ sym (if-true (w .on) _ _ o)))
+
+  no-tile : w .on ≡ false → (k : ℕ) → 512 ≡ tileDot w t clear bank y k
+  unfolding tileDot
+  no-tile o k = sym (if-false (w .on) _ _ o)
+
+  pub layered-gone : (n : ℕ) → n ≡ 640 → w .on ≡ false → stencil ≡ true → tab (λ (k : ℕ). 512) n ≡ tab laid 640
+  layered-gone n e o s =
+      ap (tab (λ (k : ℕ). 512)) e
+      ∙ tab-ext _ _ 640 (λ k h.
+      stencilled-bare pal (getD out k 0)
+      ∙ ap (λ (b : Bool). composed b pal (getD out k 0) 512) (sym s)
+      ∙ ap (composed stencil pal (getD out k 0)) (no-tile o k))
+
+  pub layered-bare : length out ≡ 640 → w .on ≡ false → stencil ≡ false → out ≡ tab laid 640
+  layered-bare e o s =
+      entries out ∙ ap (tab (λ (k : ℕ). getD out k 0)) e
+      ∙ tab-ext _ _ 640 (λ k h.
+      bare pal (getD out k 0)
+      ∙ ap (λ (b : Bool). composed b pal (getD out k 0) 512) (sym s)
+      ∙ ap (composed stencil pal (getD out k 0)) (no-tile o k))
+
+pub whole-line : (s : State) (line : LineNumber) (ula tile u pal out : List ℕ) (t : Layout) (w : Window) (stencil : Bool)
+    → out ≡ tab (λ (k : ℕ). composed stencil pal (getD u k 0) (tileDot w t (s .tiles .transparent) tile (line .0) k)) 640
+    → u ≡ tab (ulaDot s ula line) 640 → pal ≡ tilePalette s → t ≡ layoutOf (s .tiles) (ulaOn (s .ula))
+    → w ≡ windowOf (s .tiles) (s .tileclip) line → stencil ≡ stencilOn (s .ula) (s .tiles)
+    → out ≡ composedLine s ula tile line
+unfolding composedLine composedDot tileDotOf
+whole-line s line ula tile u pal out t w stencil e eu ep et ew es =
+    e ∙ tab-ext _ _ 640 (λ k h. rw (eu, ep, et, ew, es, getD-tab (ulaDot s ula line) 640 k h))
+
+pub finished-line : (s : State) (line : LineNumber) (ula tile row out : List ℕ) (fallback : ℕ)
+    → out ≡ finished fallback row → row ≡ composedLine s ula tile line → fallback ≡ widened (s .ula .fallback) → out ≡ drawnLine s ula tile line
+unfolding finished composedLine drawnLine lineDot
+finished-line s line ula tile row out fallback e er ef =
+    e ∙ tab-ext _ _ 640 (λ k h.
+    ap (λ (f : ℕ). above (getD row k 0) f) ef
+    ∙ ap (λ (v : ℕ). above v (widened (s .ula .fallback))) (ap (λ (r : List ℕ). getD r k 0) er ∙ getD-tab (composedDot s ula tile line) 640 k h))

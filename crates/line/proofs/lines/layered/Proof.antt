@@ -1,0 +1,60 @@
+-- With a window the tile dots are read from the row of codes; without one the line stays or goes.
+use Rattle.line.proofs.Layers.{layered-on, layered-gone, layered-bare}
+use mathlib.Core.Path.{_∙_}
+use borrow.Author.Needs.{needs}
+use Rattle.line.proofs.lines.layered.Statement.{statement}
+use Rattle.line.proofs.lines.layered.Tie as tie
+
+wide-requires : tie.Need-wide-requires
+wide-requires c κs = search needs
+
+slice-aggregate-tile-row : tie.Need-slice-aggregate-tile-row
+slice-aggregate-tile-row c = search needs
+
+tile-row-requires : tie.Need-tile-row-requires
+tile-row-requires c κs = search needs
+
+slice-aggregate-compose-row : tie.Need-slice-aggregate-compose-row
+slice-aggregate-compose-row c = search needs
+
+compose-row-requires : tie.Need-compose-row-requires
+compose-row-requires c κs = search needs
+
+paint-requires : tie.Need-paint-requires
+paint-requires c κs = search needs
+
+same-length : tie.Need-same-length
+same-length c = search needs
+
+returns : tie.Need-returns
+returns c = let b = c .before .before .before .before .before .before .before in
+    let s = c .before .before .before .before .before .before .before .before .before .before .before .before .before .args in
+    c .before .before .compose-row .ensures ∙ layered-on (s .t) (s .w) (s .clear) (s .stencil) (s .pal .now) (s .bank .now) (s .out .now) (s .line .0) _ _ _ (b .before .before .before .if1 .taken) (b .tile-row .ensures) (b .before .before .wide .ensures .0)
+
+same-length-2 : tie.Need-same-length-2
+same-length-2 c = search needs
+
+returns-2 : tie.Need-returns-2
+returns-2 c = let s = c .before .before .before .before .before .before .before .before .args in
+    c .before .before .paint .ensures ∙ layered-gone (s .t) (s .w) (s .clear) (s .stencil) (s .pal .now) (s .bank .now) (s .out .now) (s .line .0) _ (search needs) (c .before .before .before .before .before .if1 .left) (c .before .before .before .before .if2 .taken)
+
+returns-3 : tie.Need-returns-3
+returns-3 c = let s = c .before .before .before .before in
+    let a = s .args in
+    layered-bare (a .t) (a .w) (a .clear) (a .stencil) (a .pal .now) (a .bank .now) (a .out .now) (a .line .0) (s .pre .3) (c .before .if1 .left) (c .if2 .left)
+
+pub layered-spec : {M : Type 1} → statement M
+layered-spec =
+    tie.close
+    (tie.spec
+    wide-requires
+    slice-aggregate-tile-row
+    tile-row-requires
+    slice-aggregate-compose-row
+    compose-row-requires
+    paint-requires
+    same-length
+    returns
+    same-length-2
+    returns-2
+    returns-3)

@@ -1,0 +1,16 @@
+-- The three bits.
+use borrow.Author.Needs.{needs}
+use Rattle.line.proofs.lines.stencil_on.Statement.{statement}
+use Rattle.line.proofs.lines.stencil_on.Tie as tie
+
+ula-on-requires : tie.Need-ula-on-requires
+ula-on-requires c κs = search needs
+
+tilemap-on-requires : tie.Need-tilemap-on-requires
+tilemap-on-requires c κs = search needs
+
+returns : tie.Need-returns
+returns c = cc
+
+pub stencil-on-spec : {M : Type 1} → statement M
+stencil-on-spec = tie.close (tie.spec ula-on-requires tilemap-on-requires returns)

@@ -1,0 +1,12 @@
+-- One of two widths.
+use Rattle.line.proofs.replies.width_of.Statement.{statement}
+use Rattle.line.proofs.replies.width_of.Tie as tie
+
+returns : tie.Need-returns
+returns c = rw (c .if1 .taken)
+
+returns-2 : tie.Need-returns-2
+returns-2 c = rw (c .if1 .left)
+
+pub width-of-spec : {M : Type 1} → statement M
+width-of-spec = tie.close (tie.spec returns returns-2)

@@ -1,0 +1,50 @@
+-- What is drawn: a line as 640 dots, from the two banks and the state.
+use Prim.Native.Nat.{ℕ}
+use mathlib.Core.List.{List}
+use mathlib.Core.Bool.{Bool, cond, _&&_}
+use lib.ListN.{getD}
+use Rattle.lists.specs.Tab.{tab}
+use Rattle.colour.specs.Bytes.{widened}
+use Rattle.state.specs.Bits.{ulaOn, stencilSet, tilemapOn, tileSecondShown}
+use Rattle.state.specs.declared.State.{State}
+use Rattle.state.specs.declared.Ula.{Ula}
+use Rattle.state.specs.declared.Tiles.{Tiles}
+use Rattle.surface.specs.Dots.{above}
+use Rattle.surface.specs.declared.lines.LineNumber.{LineNumber}
+use Rattle.ula.specs.Display.{ulaDot}
+use Rattle.tilemap.specs.Dots.{tileDot}
+use Rattle.tilemap.specs.Setup.{layoutOf, windowOf}
+use Rattle.line.specs.Compose.{composed}
+
+-- $6B: bit 4 the tilemap palette shown
+unfoldable pub tilePalette : State → List ℕ
+tilePalette s = cond (tileSecondShown (s .tiles)) (s .tilesecond) (s .tilefirst)
+
+-- $68: bit 0 stencil, with both on
+abbrev pub stencilOn : Ula → Tiles → Bool
+stencilOn u t = stencilSet u && ulaOn u && tilemapOn t
+
+-- dot k of a line of the tilemap
+unfoldable pub tileDotOf : State → List ℕ → LineNumber → ℕ → ℕ
+tileDotOf s bank line =
+    tileDot (windowOf (s .tiles) (s .tileclip) line) (layoutOf (s .tiles) (ulaOn (s .ula))) (s .tiles .transparent) bank (line .0)
+
+-- dot k before the fallback: a colour, or 512 for transparent
+unfoldable pub composedDot : State → List ℕ → List ℕ → LineNumber → ℕ → ℕ
+composedDot s ula tile line k = composed (stencilOn (s .ula) (s .tiles)) (tilePalette s) (ulaDot s ula line k) (tileDotOf s tile line k)
+
+-- the composed line
+unfoldable pub composedLine : State → List ℕ → List ℕ → LineNumber → List ℕ
+composedLine s ula tile line = tab (composedDot s ula tile line) 640
+
+-- the fallback over a composed line
+unfoldable pub finished : ℕ → List ℕ → List ℕ
+finished fallback row = tab (λ (k : ℕ). above (getD row k 0) fallback) 640
+
+-- dot k; transparent at the end: the fallback, widened as $41
+unfoldable pub lineDot : State → List ℕ → List ℕ → LineNumber → ℕ → ℕ
+lineDot s ula tile line k = above (composedDot s ula tile line k) (widened (s .ula .fallback))
+
+-- one line as 640 dots
+unfoldable pub drawnLine : State → List ℕ → List ℕ → LineNumber → List ℕ
+drawnLine s ula tile line = tab (lineDot s ula tile line) 640

@@ -1,0 +1,70 @@
+// The tile dots of a line over and under its ULA dots.
+ghost use mathlib.Core.Path.{_≡_};
+ghost use Prim.Native.Nat.{ℕ, _+_, _/_, _<_};
+ghost use lib.ListN.{length, getD};
+ghost use Rattle.lists.specs.Tab.{tab};
+ghost use Rattle.surface.specs.Dots.{clipped};
+ghost use Rattle.tilemap.specs.Dots.{acrossOf};
+ghost use Rattle.line.specs.Compose.{tileColour, stencilled, composed};
+
+fn tile_colour(pal: &[u16; 256], code: u16) -> u16
+    ensures { λ r. ⌜ r ≡ tileColour (now (pal .entry)) code ⌝ }
+{
+    if code == 512 {
+        512
+    } else {
+        let i = (code % 256) as usize;
+        pal[i]
+    }
+}
+
+fn stencil_dot(a: u16, b: u16) -> u16
+    ensures { λ r. ⌜ r ≡ stencilled a b ⌝ }
+{
+    if (a == 512) | (b == 512) { 512 } else { a & b }
+}
+
+// A dot before the fallback, 512 where transparent.
+fn composed_dot(stencil: bool, pal: &[u16; 256], u: u16, code: u16) -> u16
+    ensures { λ r. ⌜ r ≡ composed stencil (now (pal .entry)) u code ⌝ }
+{
+    let t = tile_colour(pal, code);
+    if stencil {
+        stencil_dot(u, t)
+    } else {
+        if code / 256 == 1 {
+            surface::over(u, t)
+        } else {
+            surface::over(t, u)
+        }
+    }
+}
+
+// The code of dot k within the clip; a row of codes starts skew codes before the line.
+fn code_at(row: &[u16], wide: bool, skew: usize, left: usize, right: usize, k: usize) -> u16
+    requires { ⌜ (length (now row) ≡ 648) × (skew < 8) × (k < 640) ⌝ }
+    ensures { λ r. ⌜ r ≡ clipped (k / 2) left right (getD (now (row .entry)) (skew + acrossOf wide k) 0) ⌝ }
+{
+    let at = skew + tilemap::across(wide, k);
+    surface::clip(k / 2, left, right, row[at])
+}
+
+// The ULA's dots in out become composed dots.
+pub fn compose_row(
+    stencil: bool,
+    pal: &[u16; 256],
+    row: &[u16],
+    wide: bool,
+    skew: usize,
+    left: usize,
+    right: usize,
+    out: &mut [u16],
+)
+    requires { ⌜ (length (now row) ≡ 648) × (skew < 8) × (length (now out) ≡ 640) ⌝ }
+    ensures { λ r. ⌜ now (out .exit) ≡ tab (λ (k : ℕ). composed stencil (now (pal .entry)) (getD (now (out .entry)) k 0) (clipped (k / 2) left right (getD (now (row .entry)) (skew + acrossOf wide k) 0))) 640 ⌝ }
+{
+    for k in 0..640 {
+        let code = code_at(row, wide, skew, left, right, k);
+        out[k] = composed_dot(stencil, pal, out[k], code);
+    }
+}

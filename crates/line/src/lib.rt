@@ -1,0 +1,14 @@
+// The line drawer: the ULA's row and the tilemap's composed, the fallback over them, and the refusals in their order.
+mod compose;
+mod drawer;
+mod lines;
+mod replies;
+
+pub use drawer::draw;
+pub use lines::composed_line;
+pub use lines::finish_line;
+pub use replies::first_of;
+pub use replies::lawful_reply;
+pub use replies::lengths_reply;
+pub use replies::line_reply;
+pub use replies::state_reply;

@@ -1,0 +1,89 @@
+// A line before the fallback, and the fallback over it.
+ghost use mathlib.Core.Path.{_≡_};
+ghost use mathlib.Core.Bool.{true};
+ghost use Prim.Native.Nat.{ℕ, _/_, _<_};
+ghost use lib.ListN.{length, getD};
+ghost use Rattle.lists.specs.Tab.{tab};
+ghost use Rattle.state.specs.Lawful.{lawfulState};
+ghost use Rattle.surface.specs.Lines.{isLine};
+ghost use Rattle.tilemap.specs.Dots.{tileDot};
+ghost use Rattle.tilemap.specs.Bounds.{Laid};
+ghost use Rattle.line.specs.Compose.{composed};
+ghost use Rattle.line.specs.Lines.{tilePalette, stencilOn, composedLine, finished};
+use crate::compose::compose_row;
+use lists::wide;
+use state::State;
+use state::Tiles;
+use state::Ula;
+use surface::LineNumber;
+use tilemap::Layout;
+use tilemap::Window;
+
+fn tile_palette(s: State) -> [u16; 256]
+    ensures { λ r. ⌜ r ≡ tilePalette s ⌝ }
+{
+    if s.tiles.control / 16 % 2 == 1 {
+        s.tilesecond
+    } else {
+        s.tilefirst
+    }
+}
+
+fn stencil_on(u: Ula, t: Tiles) -> bool
+    ensures { λ r. ⌜ r ≡ stencilOn u t ⌝ }
+{
+    let ula = state::ula_on(u);
+    let tiles = state::tilemap_on(t);
+    (u.control % 2 == 1) & ula & tiles
+}
+
+// The tile dots of a line composed with the ULA's in out. Without a window there is nothing to lay: the ULA's dots stay, or nothing
+// is left of them under a stencil.
+fn layered(
+    t: Layout,
+    w: Window,
+    clear: u8,
+    stencil: bool,
+    pal: &[u16; 256],
+    bank: &[u8],
+    line: LineNumber,
+    out: &mut [u16],
+)
+    requires { ⌜ (Laid t) × (line .0 < 256) × (length (now bank) ≡ 16384) × (length (now out) ≡ 640) ⌝ }
+    ensures { λ r. ⌜ now (out .exit) ≡ tab (λ (k : ℕ). composed stencil (now (pal .entry)) (getD (now (out .entry)) k 0) (tileDot w t clear (now (bank .entry)) (line .0) k)) 640 ⌝ }
+{
+    if w.on {
+        let mut row = [0u16; 648];
+        tilemap::tile_row(t, wide(clear), bank, line, &mut row);
+        compose_row(stencil, pal, &row, t.wide, t.x % 8, w.left, w.right, out);
+    } else {
+        if stencil {
+            ula::paint(512, out);
+        }
+    }
+}
+
+// The 640 composed dots of a line, 512 where transparent. Asks for a lawful state, a line and lengths that the caller has judged;
+// what the state alone is refused for it does not ask.
+pub fn composed_line(s: State, line: LineNumber, ula: &[u8], tile: &[u8], out: &mut [u16])
+    requires { ⌜ (lawfulState s ≡ true) × (isLine line ≡ true) × (length (now ula) ≡ 16384) × (length (now tile) ≡ 16384) × (length (now out) ≡ 640) ⌝ }
+    ensures { λ r. ⌜ now (out .exit) ≡ composedLine s (now (ula .entry)) (now (tile .entry)) line ⌝ }
+{
+    ula::ula_row(s, ula, line, out);
+    let pal = tile_palette(s);
+    let clip = s.tileclip;
+    let w = tilemap::window_of(s.tiles, &clip, line);
+    let t = tilemap::layout_of(s.tiles, state::ula_on(s.ula));
+    let stencil = stencil_on(s.ula, s.tiles);
+    layered(t, w, s.tiles.transparent, stencil, &pal, tile, line, out);
+}
+
+// The fallback colour where a composed line is transparent.
+pub fn finish_line(fallback: u16, out: &mut [u16])
+    requires { ⌜ length (now out) ≡ 640 ⌝ }
+    ensures { λ r. ⌜ now (out .exit) ≡ finished fallback (now (out .entry)) ⌝ }
+{
+    for k in 0..640 {
+        out[k] = surface::over(out[k], fallback);
+    }
+}

@@ -1,0 +1,112 @@
+// What a drawing is refused for, piece by piece, and the order of the pieces.
+ghost use mathlib.Core.Path.{_≡_};
+ghost use Prim.Native.Nat.{_+_, _*_, _<_};
+ghost use Rattle.tilemap.specs.Index.{widthOf};
+ghost use Rattle.line.specs.Replies.{lineReply, lengthsReply, lawfulReply, loresWithTiles, nextWithPlus, noMode, farOffset, stateReply, firstOf};
+use lists::wide;
+use reply::Reply;
+use state::Palette;
+use state::Ports;
+use state::State;
+use state::Tiles;
+use state::Ula;
+use surface::LineNumber;
+
+// Done where the line can be drawn.
+pub fn line_reply(line: LineNumber) -> Reply
+    ensures { λ r. ⌜ r ≡ lineReply line ⌝ }
+{
+    if surface::is_line(line) {
+        Reply::Done
+    } else {
+        Reply::NoLine
+    }
+}
+
+// Done where both banks and the line have their lengths.
+pub fn lengths_reply(ula: usize, tile: usize, out: usize) -> Reply
+    ensures { λ r. ⌜ r ≡ lengthsReply ula tile out ⌝ }
+{
+    if (ula == 16384) & (tile == 16384) {
+        if out == 640 {
+            Reply::Done
+        } else {
+            Reply::BufferLength
+        }
+    } else {
+        Reply::BankLength
+    }
+}
+
+pub fn lawful_reply(s: State) -> Reply
+    ensures { λ r. ⌜ r ≡ lawfulReply s ⌝ }
+{
+    if state::lawful(s) {
+        Reply::Done
+    } else {
+        Reply::NotLawful
+    }
+}
+
+fn lores_with_tiles(u: Ula, t: Tiles) -> bool
+    ensures { λ r. ⌜ r ≡ loresWithTiles u t ⌝ }
+{
+    state::lores_on(u) & state::tilemap_on(t)
+}
+
+fn next_with_plus(p: Palette, ports: Ports) -> bool
+    ensures { λ r. ⌜ r ≡ nextWithPlus p ports ⌝ }
+{
+    state::next_on(p) & ports.plus
+}
+
+fn no_mode(u: Ula, ports: Ports) -> bool
+    ensures { λ r. ⌜ r ≡ noMode u ports ⌝ }
+{
+    let missing = address::is_missing(address::mode_of(u, ports));
+    state::ula_on(u) & missing
+}
+
+fn width_of(columns80: bool) -> usize
+    ensures { λ r. ⌜ r ≡ widthOf columns80 ⌝ }
+{
+    if columns80 { 640 } else { 320 }
+}
+
+fn far_offset(t: Tiles) -> bool
+    ensures { λ r. ⌜ r ≡ farOffset t ⌝ }
+{
+    let width = width_of(t.control / 64 % 2 == 1);
+    let x = wide(t.xhigh) * 256 + wide(t.xlow);
+    state::tilemap_on(t) & (width <= x)
+}
+
+// What the state alone is refused for.
+pub fn state_reply(u: Ula, t: Tiles, p: Palette, ports: Ports) -> Reply
+    ensures { λ r. ⌜ r ≡ stateReply u t p ports ⌝ }
+{
+    if lores_with_tiles(u, t) {
+        return Reply::LoresWithTiles;
+    }
+    if next_with_plus(p, ports) {
+        return Reply::NextWithPlus;
+    }
+    if no_mode(u, ports) {
+        return Reply::NoMode;
+    }
+    if far_offset(t) {
+        return Reply::FarOffset;
+    }
+    Reply::Done
+}
+
+// The first of two replies that refuses.
+pub fn first_of(first: Reply, next: Reply) -> Reply
+    ensures { λ r. ⌜ r ≡ firstOf first next ⌝ }
+{
+    if reply::number(first) == 0 {
+        next
+    } else {
+        first
+    }
+}
