@@ -1,0 +1,39 @@
+// A drawing asked for, and its answer printed.
+ghost use Prim.Native.Nat.{_≤_};
+use state::State;
+use surface::LineNumber;
+
+fn print_answer(label: &[u8], n: u8, first: u16, last: u16) {
+    report::word(label);
+    report::word(b": ");
+    report::number(n as u64);
+    report::word(b" ");
+    report::number(first as u64);
+    report::word(b" ");
+    report::number(last as u64);
+    report::word(b"\n");
+}
+
+pub fn ask(label: &[u8], y: usize, s: State) {
+    let bank = [0u8; 16384];
+    let mut dots = [65535u16; 640];
+    let r = line::draw(LineNumber(y), &bank, &bank, s, &mut dots);
+    print_answer(label, reply::number(r), dots[0], dots[639]);
+}
+
+// Line 0 with buffers of these lengths, each at most one past the right one.
+pub fn ask_lengths(label: &[u8], ula: usize, tile: usize, width: usize, s: State)
+    requires { ⌜ (ula ≤ 16385) × (tile ≤ 16385) × (width ≤ 641) ⌝ }
+{
+    let bank = [0u8; 16385];
+    let other = [0u8; 16385];
+    let mut dots = [65535u16; 641];
+    let r = line::draw(
+        LineNumber(0),
+        &bank[..ula],
+        &other[..tile],
+        s,
+        &mut dots[..width],
+    );
+    print_answer(label, reply::number(r), dots[0], dots[639]);
+}
