@@ -1,0 +1,56 @@
+// A map and definitions set in a bank, and drawn by the tilemap's rule.
+ghost use mathlib.Core.Path.{_≡_};
+ghost use Prim.Native.Nat.{_+_, _≤_, _<_};
+ghost use lib.ListN.{length};
+ghost use Rattle.tilemap.specs.Bounds.{Laid};
+use lists::wide;
+use tilemap::Layout;
+
+fn set(bank: &mut [u8], at: usize, part: &[u8])
+    requires { ⌜ at + length (now part) ≤ length (now bank) ⌝ }
+{
+    for i in 0..part.len() {
+        bank[at + i] = part[i];
+    }
+}
+
+// The index at pixel i of 81,920 is that of the picture, with palette offset 0.
+fn is_right(picture: &[u8], bank: &[u8], t: Layout, i: usize) -> bool
+    requires { ⌜ (length (now picture) ≡ 40960) × (length (now bank) ≡ 16384) × (Laid t) × (i < 81920) ⌝ }
+{
+    let x = i % 320;
+    let y = i / 320;
+    tilemap::index_at(t, bank, x, y) == tilemap::half(x, wide(picture[y * 160 + x / 2]))
+}
+
+fn count_wrong(picture: &[u8], bank: &[u8], t: Layout) -> u64
+    requires { ⌜ (length (now picture) ≡ 40960) × (length (now bank) ≡ 16384) × (Laid t) ⌝ }
+{
+    let mut wrong = 0;
+    for i in 0..81920 {
+        if !is_right(picture, bank, t, i) {
+            wrong += 1;
+        }
+    }
+    wrong
+}
+
+// The definitions at the bank's start and the map at its end: 40 columns, two bytes an entry, unscrolled, the ULA on.
+pub fn differ(picture: &[u8], map: &[u8], definitions: &[u8]) -> u64
+    requires { ⌜ (length (now picture) ≡ 40960) × (length (now map) ≡ 2560) × (length (now definitions) ≡ 8192) ⌝ }
+{
+    let mut bank = [0u8; 16384];
+    set(&mut bank, 0, definitions);
+    set(&mut bank, 13824, map);
+    let t = Layout {
+        wide: false,
+        single: false,
+        attribute: 0,
+        ula: true,
+        map: 13824,
+        definitions: 0,
+        x: 0,
+        y: 0,
+    };
+    count_wrong(picture, &bank, t)
+}
