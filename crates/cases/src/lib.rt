@@ -4,9 +4,9 @@ use state::State;
 use surface::LineNumber;
 
 // A line's sum, or its reply where it is refused.
-fn print_line(y: usize, bank: &[u8], s: State) {
+fn print_line(y: usize, ula: &[u8], tile: &[u8], s: State) {
     let mut dots = [0u16; 640];
-    let r = line::draw(LineNumber(y), bank, bank, s, &mut dots);
+    let r = line::draw(LineNumber(y), ula, tile, s, &mut dots);
     let n = reply::number(r);
     if n == 0 {
         report::hex(sums::line_sum(&dots) as u64, 8);
@@ -16,9 +16,10 @@ fn print_line(y: usize, bank: &[u8], s: State) {
     }
 }
 
-fn print_lines(bank: &[u8], s: State) {
+// A line for each line of the picture.
+pub fn print_lines(ula: &[u8], tile: &[u8], s: State) {
     for y in 0..256 {
-        print_line(y, bank, s);
+        print_line(y, ula, tile, s);
     }
 }
 
@@ -28,7 +29,7 @@ fn print_case(record: &[u8], bank: &[u8]) {
     let n = reply::number(r);
     if n == 0 {
         let s = held.state;
-        print_lines(bank, s);
+        print_lines(bank, bank, s);
     } else {
         report::row(b"record refused", n as u64);
     }

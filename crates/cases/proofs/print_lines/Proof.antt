@@ -5,10 +5,10 @@ use Rattle.cases.proofs.print_lines.Statement.{statement}
 use Rattle.cases.proofs.print_lines.Tie as tie
 
 abbrev Inv-loop : tie.InvT-loop
-Inv-loop bank s y₀ y = y ≤ 256
+Inv-loop ula tile s y₀ y = y ≤ 256
 
 abbrev μ-loop : tie.MeasureT-loop
-μ-loop bank s y₀ y = 256 - y
+μ-loop ula tile s y₀ y = 256 - y
 
 loop-holds : tie.Need-loop-holds Inv-loop μ-loop
 loop-holds c = search needs
