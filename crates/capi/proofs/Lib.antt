@@ -1,0 +1,3 @@
+mod Exits
+mod Draws
+mod Counts

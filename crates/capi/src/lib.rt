@@ -1,0 +1,14 @@
+// The calls for C, Rust and Python: numbers and slices only, a state lent as its record. Each answers the reply's number.
+mod changes;
+mod pictures;
+mod readings;
+
+pub use changes::narephon_next_frame;
+pub use changes::narephon_reset;
+pub use changes::narephon_write_port;
+pub use changes::narephon_write_register;
+pub use pictures::narephon_draw;
+pub use pictures::narephon_pack;
+pub use pictures::narephon_screen_value;
+pub use readings::narephon_read_port;
+pub use readings::narephon_read_register;
