@@ -1,0 +1,295 @@
+//! Narephon measured against plain Rust written for speed, as Markdown tables.
+
+use compare::pictures;
+use compare::random::Random;
+use compare::states::record_of;
+use compare::timing::{interleaved, print_table, Row};
+use model::State;
+use std::hint::black_box;
+
+const LINES: u32 = 256;
+const DRAWING: f64 = 1.5;
+const PACKING: f64 = 1.5;
+const PACKING_PLAIN: f64 = 0.1;
+
+const HOW: &str = "\
+Both sides are built for release and given the same inputs. Their runs are interleaved, each going first in turn;
+ratios are Narephon to fast. Buffers are reused from run to run and not cleared. Banks are noise, offsets are not 0,
+nothing is clipped. Narephon's calls are given a record each time.";
+
+fn main() {
+    let mut random = Random::new(1);
+    println!("{HOW}");
+    previews(&mut random);
+    records(&mut random);
+    packings(&mut random);
+}
+
+/// A state with palettes at random, which both a ULA offset and a tilemap offset move.
+fn base(random: &mut Random) -> State {
+    let mut state = State::reset();
+    for colour in state.palettes.iter_mut().flatten() {
+        *colour = random.below(512) as u16;
+    }
+    for byte in &mut state.plus {
+        *byte = random.byte();
+    }
+    state.peripheral = 4;
+    (state.ula_x, state.ula_y) = (20, 50);
+    (state.tile_x_low, state.tile_y) = (13, 77);
+    // The map and its definitions, as far apart as 80 columns need.
+    (state.map_base, state.definition_base) = (0, 0x20);
+    state
+}
+
+/// The six screens of a preview.
+fn screens(base: &State) -> Vec<(&'static str, State)> {
+    let set = |change: fn(&mut State)| {
+        let mut state = base.clone();
+        change(&mut state);
+        state
+    };
+    vec![
+        ("mode 0", set(|_| {})),
+        ("mode 2", set(|state| state.timex = 2)),
+        ("mode 6", set(|state| state.timex = 6)),
+        ("LoRes", set(|state| state.layers = 0x80)),
+        ("mode 0, ULANext", set(|state| state.palette_control = 1)),
+        ("mode 0, ULAplus", set(|state| state.plus_on = true)),
+    ]
+}
+
+/// Whole previews, beside fast reading the record once and reading it for each line.
+fn previews(random: &mut Random) {
+    let base = base(random);
+    let banks = [random.bytes(16_384), random.bytes(16_384)];
+    let (mut once, mut each) = (Vec::new(), Vec::new());
+    for (name, screen) in screens(&base) {
+        for (tiles, control) in [("", 0), (", 40 columns", 0x80), (", 80 columns", 0xC0)] {
+            // LoRes beside a tilemap is refused.
+            if screen.lores() && control != 0 {
+                continue;
+            }
+            let mut state = screen.clone();
+            state.tile_control = control;
+            let rows = preview(&format!("{name}{tiles}"), &record_of(&state), &banks);
+            let [first, second] = rows;
+            once.push(first);
+            each.push(second);
+        }
+    }
+    let title = "A whole preview, 256 lines";
+    print_table(&format!("{title}; fast reads the record once"), &once);
+    let title = format!("{title}; fast reads the record for each line, as the exported call does");
+    print_table(&title, &each);
+}
+
+/// A picture of 256 lines, each drawn into its own part.
+struct Picture(Vec<u16>);
+
+impl Picture {
+    fn new() -> Picture {
+        Picture(vec![0; LINES as usize * narephon::DOTS])
+    }
+
+    fn narephon(&mut self, record: &[u8], banks: &[Vec<u8>; 2]) {
+        for (line, dots) in (0..LINES).zip(self.0.chunks_exact_mut(narephon::DOTS)) {
+            let drawn = narephon::draw(black_box(record), &banks[0], &banks[1], line, dots);
+            assert_eq!(drawn, Ok(()));
+        }
+        black_box(&self.0);
+    }
+
+    fn fast_once(&mut self, record: &[u8], banks: &[Vec<u8>; 2]) {
+        let (_, state) = fast::read_record(black_box(record));
+        for (line, dots) in (0..LINES).zip(self.0.chunks_exact_mut(narephon::DOTS)) {
+            let reply = fast::draw(line, &banks[0], &banks[1], black_box(&state), dots);
+            assert_eq!(reply, 0);
+        }
+        black_box(&self.0);
+    }
+
+    fn fast_each(&mut self, record: &[u8], banks: &[Vec<u8>; 2]) {
+        for (line, dots) in (0..LINES).zip(self.0.chunks_exact_mut(narephon::DOTS)) {
+            let (_, state) = fast::read_record(black_box(record));
+            let reply = fast::draw(line, &banks[0], &banks[1], &state, dots);
+            assert_eq!(reply, 0);
+        }
+        black_box(&self.0);
+    }
+}
+
+fn preview(what: &str, record: &[u8], banks: &[Vec<u8>; 2]) -> [Row; 2] {
+    let mut pictures = [Picture::new(), Picture::new(), Picture::new()];
+    let [ours, once, each] = &mut pictures;
+    let times = interleaved(
+        150,
+        1,
+        &mut [
+            &mut || ours.narephon(record, banks),
+            &mut || once.fast_once(record, banks),
+            &mut || each.fast_each(record, banks),
+        ],
+    );
+    assert!(ours.0 == once.0 && ours.0 == each.0, "{what} differs");
+    [times[1], times[2]].map(|fast| Row {
+        what: what.to_string(),
+        narephon: times[0],
+        fast,
+        target: Some(DRAWING),
+    })
+}
+
+/// Fast doing what an exported write does: a record read, changed and written.
+fn fast_change(record: &mut [u8], change: impl FnOnce(&mut fast::State) -> u8) {
+    let (read, mut state) = fast::read_record(black_box(record));
+    let changed = change(&mut state);
+    let written = fast::write_record(&state, record);
+    assert_eq!((read, changed, written), (0, 0, 0));
+}
+
+/// A write, and a record read and written.
+fn records(random: &mut Random) {
+    let rows = vec![
+        write_row(random, "write of $41, fast on a state that it keeps", true),
+        write_row(random, "write of $41, fast on a record", false),
+        frame_row(random),
+    ];
+    print_table("A register write, a record read and written", &rows);
+}
+
+/// Another colour each time, so the index moves on.
+fn write_row(random: &mut Random, what: &str, keeps: bool) -> Row {
+    let mut record = record_of(&base(random));
+    let mut other = record.clone();
+    let (_, mut state) = fast::read_record(&record);
+    let (mut value, mut other_value) = (0u8, 0u8);
+    let mut ours = || {
+        value = value.wrapping_add(1);
+        assert_eq!(narephon::write_register(&mut record, 0x41, value), Ok(()));
+    };
+    let mut fast = || {
+        other_value = other_value.wrapping_add(1);
+        let write = |state: &mut fast::State| fast::write_register(state, 0x41, other_value);
+        if keeps {
+            assert_eq!(write(black_box(&mut state)), 0);
+        } else {
+            fast_change(&mut other, write);
+        }
+    };
+    let times = interleaved(150, 500, &mut [&mut ours, &mut fast]);
+    if keeps {
+        assert_eq!(fast::write_record(&state, &mut other), 0);
+    }
+    assert!(record == other, "{what} differs");
+    Row {
+        what: what.to_string(),
+        narephon: times[0],
+        fast: times[1],
+        target: None,
+    }
+}
+
+fn frame_row(random: &mut Random) -> Row {
+    let mut record = record_of(&base(random));
+    let mut other = record.clone();
+    let mut ours = || assert_eq!(narephon::next_frame(&mut record), Ok(()));
+    let mut fast = || {
+        fast_change(&mut other, |state| {
+            state.frame = state.frame.wrapping_add(1);
+            0
+        });
+    };
+    let times = interleaved(150, 500, &mut [&mut ours, &mut fast]);
+    assert!(record == other, "next frame differs");
+    Row {
+        what: "next frame: a record read, changed and written".to_string(),
+        narephon: times[0],
+        fast: times[1],
+        target: None,
+    }
+}
+
+/// A packing of each kind of picture, beside fast with the same skipping and beside plain comparing.
+fn packings(random: &mut Random) {
+    let classes: Vec<pictures::Cell> = (0..256).map(|_| pictures::noise(random)).collect();
+    let near = pictures::nearly_equal(random, 256);
+    let order = pictures::reordered(random, 256);
+    let one = [pictures::noise(random)];
+    let kinds = [
+        ("256 random classes", pictures::sheet(random, &classes)),
+        ("256 nearly equal tiles", pictures::sheet(random, &near)),
+        (
+            "256 orders of the same pixels",
+            pictures::sheet(random, &order),
+        ),
+        ("one class", pictures::sheet(random, &one)),
+        ("noise, refused", random.bytes(narephon::PICTURE)),
+    ];
+    let (mut skipping, mut plain) = (Vec::new(), Vec::new());
+    for (what, picture) in &kinds {
+        let [first, second] = packing(what, picture);
+        skipping.push(first);
+        plain.push(second);
+    }
+    print_table("A packing; fast skips in the same way", &skipping);
+    print_table("A packing; fast compares each cell with each tile", &plain);
+}
+
+/// A packing's buffers and what came of it.
+struct Packed {
+    map: Vec<u8>,
+    definitions: Vec<u8>,
+    count: u32,
+}
+
+impl Packed {
+    fn new() -> Packed {
+        Packed {
+            map: vec![0; narephon::MAP],
+            definitions: vec![0; narephon::DEFINITIONS],
+            count: 0,
+        }
+    }
+
+    fn narephon(&mut self, picture: &[u8]) {
+        let (map, definitions) = (&mut self.map, &mut self.definitions);
+        let packed = narephon::pack(black_box(picture), 256, 0, map, definitions);
+        self.count = packed.unwrap_or(0);
+    }
+
+    fn fast(&mut self, picture: &[u8]) {
+        let (map, definitions) = (&mut self.map, &mut self.definitions);
+        self.count = fast::pack(black_box(picture), 256, 0, map, definitions).1;
+    }
+
+    fn plain(&mut self, picture: &[u8]) {
+        let (map, definitions) = (&mut self.map, &mut self.definitions);
+        self.count = fast::pack_plain(black_box(picture), 256, 0, map, definitions).1;
+    }
+
+    fn same(&self, other: &Packed) -> bool {
+        self.map == other.map && self.definitions == other.definitions && self.count == other.count
+    }
+}
+
+fn packing(what: &str, picture: &[u8]) -> [Row; 2] {
+    let mut packed = [Packed::new(), Packed::new(), Packed::new()];
+    let [ours, skipping, plain] = &mut packed;
+    let times = interleaved(
+        100,
+        1,
+        &mut [
+            &mut || ours.narephon(picture),
+            &mut || skipping.fast(picture),
+            &mut || plain.plain(picture),
+        ],
+    );
+    assert!(ours.same(skipping) && ours.same(plain), "{what} differs");
+    [(times[1], PACKING), (times[2], PACKING_PLAIN)].map(|(fast, target)| Row {
+        what: what.to_string(),
+        narephon: times[0],
+        fast,
+        target: Some(target),
+    })
+}

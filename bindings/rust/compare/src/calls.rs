@@ -1,0 +1,369 @@
+//! Each exported call beside the model: its reply, its answer, and every lent buffer afterwards. The safe wrapper is
+//! held to the same.
+
+use crate::lent::{same, same_items, Lent};
+use crate::seen::{Call, Seen};
+use crate::states::record_of;
+use model::reply::{DONE, NOT_A_RECORD, WRONG_BUFFER};
+use model::State;
+use narephon::raw;
+
+/// What came of a comparison: a reply that both gave, or what differs.
+pub type Checked = Result<u8, String>;
+
+/// A record to lend.
+pub fn lend(record: &[u8]) -> Lent<u8> {
+    Lent::new(record, 0x5A)
+}
+
+fn number<T>(answer: &Result<T, narephon::Reply>) -> u8 {
+    match answer {
+        Ok(_) => DONE,
+        Err(reply) => reply.number(),
+    }
+}
+
+/// A call that changes a record. The record lent is the state, so afterwards it is the record of the model's state.
+fn changing(
+    call: Call,
+    record: &mut Lent<u8>,
+    seen: &mut Seen,
+    modelled: impl Fn(&State) -> (u8, State),
+    lent: impl Fn(*mut u8, usize) -> u8,
+    wrapped: impl Fn(&mut [u8]) -> Result<(), narephon::Reply>,
+) -> Checked {
+    let mut copy = record.items().to_vec();
+    let (reply, wanted) = match model::read_record(&copy) {
+        (DONE, state) => {
+            let (reply, after) = modelled(&state);
+            (reply, record_of(&after))
+        }
+        (reply, _) => (reply, copy.clone()),
+    };
+    same("reply", lent(record.pointer(), record.count()), reply)?;
+    record.check("record", &wanted)?;
+    same("wrapper's reply", number(&wrapped(&mut copy)), reply)?;
+    same_items("wrapper's record", &copy, &wanted)?;
+    seen.reply(call, reply);
+    Ok(reply)
+}
+
+pub fn next_frame(record: &mut Lent<u8>, seen: &mut Seen) -> Checked {
+    // SAFETY: here and below, each pointer and length are those of one live buffer.
+    let lent = |record, length| unsafe { raw::narephon_next_frame(record, length) };
+    let wrapped = narephon::next_frame;
+    let checked = changing(
+        Call::NextFrame,
+        record,
+        seen,
+        model::next_frame,
+        lent,
+        wrapped,
+    );
+    checked.map_err(|what| format!("next_frame: {what}"))
+}
+
+pub fn write_register(record: &mut Lent<u8>, number: u8, value: u8, seen: &mut Seen) -> Checked {
+    let checked = changing(
+        Call::WriteRegister,
+        record,
+        seen,
+        |state| model::write_register(state, number, value),
+        |record, length| unsafe { raw::narephon_write_register(record, length, number, value) },
+        |record| narephon::write_register(record, number, value),
+    );
+    checked.map_err(|what| format!("write_register ${number:02X}, {value}: {what}"))
+}
+
+pub fn write_port(record: &mut Lent<u8>, port: u16, value: u8, seen: &mut Seen) -> Checked {
+    let checked = changing(
+        Call::WritePort,
+        record,
+        seen,
+        |state| model::write_port(state, port, value),
+        |record, length| unsafe { raw::narephon_write_port(record, length, port, value) },
+        |record| narephon::write_port(record, port, value),
+    );
+    checked.map_err(|what| format!("write_port ${port:04X}, {value}: {what}"))
+}
+
+/// A call that reads a record and leaves it.
+fn reading(
+    call: Call,
+    record: &mut Lent<u8>,
+    seen: &mut Seen,
+    modelled: impl Fn(&State) -> (u8, u8),
+    lent: impl Fn(*mut u8, usize, *mut u8) -> u8,
+    wrapped: impl Fn(&[u8]) -> Result<u8, narephon::Reply>,
+) -> Checked {
+    let before = record.items().to_vec();
+    let (reply, wanted) = match model::read_record(&before) {
+        (DONE, state) => modelled(&state),
+        (reply, _) => (reply, 0),
+    };
+    // Another value than the one wanted, so that one left as it was is seen.
+    let mut value = !wanted;
+    let got = lent(record.pointer(), record.count(), &mut value);
+    same("reply", got, reply)?;
+    same("value", value, wanted)?;
+    record.check("record", &before)?;
+    let answer = wrapped(&before);
+    same("wrapper's reply", number(&answer), reply)?;
+    same("wrapper's value", answer.unwrap_or(0), wanted)?;
+    seen.reply(call, reply);
+    Ok(reply)
+}
+
+pub fn read_register(record: &mut Lent<u8>, number: u8, seen: &mut Seen) -> Checked {
+    let checked = reading(
+        Call::ReadRegister,
+        record,
+        seen,
+        |state| model::read_register(state, number),
+        |record, length, value| unsafe {
+            raw::narephon_read_register(record, length, number, value)
+        },
+        |record| narephon::read_register(record, number),
+    );
+    checked.map_err(|what| format!("read_register ${number:02X}: {what}"))
+}
+
+pub fn read_port(record: &mut Lent<u8>, port: u16, seen: &mut Seen) -> Checked {
+    let checked = reading(
+        Call::ReadPort,
+        record,
+        seen,
+        |state| model::read_port(state, port),
+        |record, length, value| unsafe { raw::narephon_read_port(record, length, port, value) },
+        |record| narephon::read_port(record, port),
+    );
+    checked.map_err(|what| format!("read_port ${port:04X}: {what}"))
+}
+
+/// Reset, which wants a record's length and nothing of its bytes.
+pub fn reset(record: &mut Lent<u8>, seen: &mut Seen) -> Checked {
+    let fresh = record_of(&State::reset());
+    let (reply, wanted) = if record.count() == fresh.len() {
+        (DONE, fresh)
+    } else {
+        (WRONG_BUFFER, record.items().to_vec())
+    };
+    let got = unsafe { raw::narephon_reset(record.pointer(), record.count()) };
+    same("reset: reply", got, reply)?;
+    record.check("reset: record", &wanted)?;
+    if reply == DONE {
+        same_items("reset: wrapper's record", &narephon::reset(), &wanted)?;
+    }
+    seen.reply(Call::Reset, reply);
+    Ok(reply)
+}
+
+/// The two banks of a line. Where there is one, it is lent as both.
+pub struct Banks {
+    banks: Vec<(Lent<u8>, Vec<u8>)>,
+}
+
+impl Banks {
+    pub fn two(ula: Vec<u8>, tile: Vec<u8>) -> Banks {
+        Banks {
+            banks: vec![(lend(&ula), ula), (lend(&tile), tile)],
+        }
+    }
+
+    pub fn one(both: Vec<u8>) -> Banks {
+        Banks {
+            banks: vec![(lend(&both), both)],
+        }
+    }
+
+    /// The bytes of the ULA bank and of the tile bank.
+    fn bytes(&self) -> (&[u8], &[u8]) {
+        let last = self.banks.len() - 1;
+        (&self.banks[0].1, &self.banks[last].1)
+    }
+
+    fn lent(&mut self) -> [(*mut u8, usize); 2] {
+        let last = self.banks.len() - 1;
+        [0, last].map(|place| {
+            let bank = &mut self.banks[place].0;
+            (bank.pointer(), bank.count())
+        })
+    }
+
+    fn check(&self) -> Result<(), String> {
+        for (bank, bytes) in &self.banks {
+            bank.check("bank", bytes)?;
+        }
+        Ok(())
+    }
+}
+
+/// The reply and dots of the model, and its state. 13 stands in the place of 4, after 1, 2 and 3: the reset state,
+/// which is refused for nothing of its own, tells whether one of those comes first.
+fn modelled_line(record: &[u8], banks: &Banks, line: u32, dots: &mut [u16]) -> (u8, State) {
+    let (ula, tile) = banks.bytes();
+    let (reply, state) = model::read_record(record);
+    if reply == DONE {
+        return (model::draw(line, ula, tile, &state, dots), state);
+    }
+    let mut unused = dots.to_vec();
+    match model::draw(line, ula, tile, &state, &mut unused) {
+        DONE => (NOT_A_RECORD, state),
+        earlier => (earlier, state),
+    }
+}
+
+/// A line of `length` dots.
+pub fn draw(
+    record: &mut Lent<u8>,
+    banks: &mut Banks,
+    line: u32,
+    length: usize,
+    seen: &mut Seen,
+) -> Checked {
+    let (reply, state) = compared_line(record, banks, line, length)
+        .map_err(|what| format!("draw of line {line}: {what}"))?;
+    seen.reply(Call::Draw, reply);
+    if reply == DONE {
+        seen.line(&state);
+    }
+    Ok(reply)
+}
+
+fn compared_line(
+    record: &mut Lent<u8>,
+    banks: &mut Banks,
+    line: u32,
+    length: usize,
+) -> Result<(u8, State), String> {
+    let before = record.items().to_vec();
+    // No colour, so that a dot left out is seen.
+    let blank = vec![0xAAAA; length];
+    let mut wanted = blank.clone();
+    let (reply, state) = modelled_line(&before, banks, line, &mut wanted);
+    let mut dots = Lent::new(&blank, 0x5A5A);
+    same("reply", raw_draw(record, banks, line, &mut dots), reply)?;
+    dots.check("dots", &wanted)?;
+    record.check("record", &before)?;
+    banks.check()?;
+    let (ula, tile) = banks.bytes();
+    let mut copy = blank;
+    let answer = narephon::draw(&before, ula, tile, line, &mut copy);
+    same("wrapper's reply", number(&answer), reply)?;
+    same_items("wrapper's dots", &copy, &wanted)?;
+    Ok((reply, state))
+}
+
+fn raw_draw(record: &mut Lent<u8>, banks: &mut Banks, line: u32, dots: &mut Lent<u16>) -> u8 {
+    let [(ula, ula_length), (tile, tile_length)] = banks.lent();
+    // SAFETY: as above; the banks, which may be one, are read only, and the dots overlap nothing.
+    unsafe {
+        raw::narephon_draw(
+            record.pointer(),
+            record.count(),
+            ula,
+            ula_length,
+            tile,
+            tile_length,
+            line,
+            dots.pointer(),
+            dots.count(),
+        )
+    }
+}
+
+pub fn screen_value(colour: u32, seen: &mut Seen) -> Checked {
+    let (reply, wanted) = model::screen_value(colour);
+    let mut value = !wanted;
+    // SAFETY: the value is live and borrowed alone.
+    let got = unsafe { raw::narephon_screen_value(colour, &mut value) };
+    let name = |what: &str| format!("screen_value {colour}: {what}");
+    same(&name("reply"), got, reply)?;
+    same(&name("value"), value, wanted)?;
+    let answer = narephon::screen_value(colour);
+    same(&name("wrapper's reply"), number(&answer), reply)?;
+    same(&name("wrapper's value"), answer.unwrap_or(0), wanted)?;
+    seen.reply(Call::ScreenValue, reply);
+    Ok(reply)
+}
+
+/// What a packing is asked for beside its picture.
+#[derive(Clone, Copy, Debug)]
+pub struct Packing {
+    pub allowed: u32,
+    pub offset: u32,
+    /// The lengths of the map and of the definitions.
+    pub map: usize,
+    pub definitions: usize,
+}
+
+/// A packing; its reply and count.
+pub fn pack(picture: &[u8], asked: Packing, seen: &mut Seen) -> Result<(u8, u32), String> {
+    let (reply, count) = compared_packing(picture, asked)
+        .map_err(|what| format!("pack of {} bytes, {asked:?}: {what}", picture.len()))?;
+    seen.reply(Call::Pack, reply);
+    Ok((reply, count))
+}
+
+fn compared_packing(picture: &[u8], asked: Packing) -> Result<(u8, u32), String> {
+    let (allowed, offset) = (asked.allowed, asked.offset);
+    // Not 0, so that a definition left out is seen.
+    let blank_map = vec![0xAA; asked.map];
+    let blank_definitions = vec![0xAA; asked.definitions];
+    let (mut map, mut definitions) = (blank_map.clone(), blank_definitions.clone());
+    let (reply, count) = model::pack(picture, allowed, offset, &mut map, &mut definitions);
+
+    let mut lent_map = lend(&blank_map);
+    let mut lent_definitions = lend(&blank_definitions);
+    let got = raw_pack(picture, asked, count, &mut lent_map, &mut lent_definitions)?;
+    same("reply", got, reply)?;
+    lent_map.check("map", &map)?;
+    lent_definitions.check("definitions", &definitions)?;
+    if reply == DONE {
+        // The packing held to the picture itself, not only to another packing.
+        let wrong = model::draws(&map, &definitions, offset, picture);
+        same("number of pixels drawn otherwise", wrong, 0)?;
+    }
+    let (mut map_copy, mut definitions_copy) = (blank_map, blank_definitions);
+    let answer = narephon::pack(
+        picture,
+        allowed,
+        offset,
+        &mut map_copy,
+        &mut definitions_copy,
+    );
+    same("wrapper's reply", number(&answer), reply)?;
+    same("wrapper's count", answer.unwrap_or(0), count)?;
+    same_items("wrapper's map", &map_copy, &map)?;
+    same_items("wrapper's definitions", &definitions_copy, &definitions)?;
+    Ok((reply, count))
+}
+
+/// The reply, once count and picture are as wanted.
+fn raw_pack(
+    picture: &[u8],
+    asked: Packing,
+    wanted: u32,
+    map: &mut Lent<u8>,
+    definitions: &mut Lent<u8>,
+) -> Checked {
+    let mut lent_picture = lend(picture);
+    let mut count = !wanted;
+    // SAFETY: each pointer and length are those of one live buffer, and none overlaps another.
+    let got = unsafe {
+        raw::narephon_pack(
+            lent_picture.pointer(),
+            lent_picture.count(),
+            asked.allowed,
+            asked.offset,
+            map.pointer(),
+            map.count(),
+            definitions.pointer(),
+            definitions.count(),
+            &mut count,
+        )
+    };
+    same("count", count, wanted)?;
+    lent_picture.check("picture", picture)?;
+    Ok(got)
+}

@@ -1,0 +1,398 @@
+//! The comparison's jobs. A job is so many rounds, and a round is told by its seed alone.
+
+use crate::calls::{
+    draw, lend, next_frame, pack, read_port, read_register, reset, screen_value, write_port,
+    write_register, Banks, Packing,
+};
+use crate::lent::{same, same_items, Lent};
+use crate::pictures;
+use crate::random::Random;
+use crate::seen::Seen;
+use crate::states::{bank, damage, hold, lawful, lead, line, record_of, value, SETTINGS};
+use model::reply::DONE;
+use model::{State, DOTS, RECORD_LENGTH};
+
+type Done = Result<(), String>;
+
+pub struct Job {
+    pub name: &'static str,
+    pub rounds: u64,
+    pub run: fn(u64, &mut Seen) -> Done,
+}
+
+/// Every job. Rounds of neighbouring seeds take register numbers, port numbers, bytes, lengths and settings in turn, so
+/// the rounds of a job are multiples of those where each is to be met.
+pub const JOBS: [Job; 11] = [
+    Job {
+        name: "packings",
+        rounds: 12 * pictures::KINDS,
+        run: packings,
+    },
+    Job {
+        name: "registers",
+        rounds: 2 * 256,
+        run: registers,
+    },
+    Job {
+        name: "ports",
+        rounds: 256,
+        run: ports,
+    },
+    Job {
+        name: "scripts",
+        rounds: 500,
+        run: scripts,
+    },
+    Job {
+        name: "damaged records",
+        rounds: 12_000,
+        run: damaged_records,
+    },
+    Job {
+        name: "record bytes",
+        rounds: RECORD_LENGTH as u64,
+        run: record_bytes,
+    },
+    Job {
+        name: "record lengths",
+        rounds: 2_400,
+        run: record_lengths,
+    },
+    Job {
+        name: "lines",
+        rounds: 32 * SETTINGS,
+        run: lines,
+    },
+    Job {
+        name: "whole screens",
+        rounds: SETTINGS / 2,
+        run: whole_screens,
+    },
+    Job {
+        name: "refused lines",
+        rounds: 8_000,
+        run: refused_lines,
+    },
+    Job {
+        name: "screen values and packing bounds",
+        rounds: 300,
+        run: bounds,
+    },
+];
+
+const PORTS: [u16; 4] = [0x00FE, 0x00FF, 0xBF3B, 0xFF3B];
+
+/// A register number: mostly one that there is.
+fn register(random: &mut Random) -> u8 {
+    let known = [
+        0x08, 0x14, 0x15, 0x1A, 0x1B, 0x1C, 0x2F, 0x30, 0x31, 0x32, 0x33, 0x40, 0x41, 0x42, 0x43,
+        0x44, 0x4A, 0x4C, 0x68, 0x6B, 0x6C, 0x6E, 0x6F,
+    ];
+    match random.below(8) {
+        0 => random.byte(),
+        1 | 2 => random.pick(&[0x40, 0x41, 0x43, 0x44]),
+        _ => random.pick(&known),
+    }
+}
+
+/// A port number: mostly one that there is, or one byte of it wrong.
+fn port(random: &mut Random) -> u16 {
+    let known = random.pick(&PORTS);
+    match random.below(8) {
+        0 => random.number() as u16,
+        1 => known & 0xFF00 | u16::from(random.byte()),
+        2 => known & 0x00FF | u16::from(random.byte()) << 8,
+        _ => known,
+    }
+}
+
+/// Each value into one register, from a state with a held half and, 256 seeds on, from one without, or the other way
+/// about.
+fn registers(seed: u64, seen: &mut Seen) -> Done {
+    let mut random = Random::new(seed);
+    let number = seed as u8;
+    let mut state = lawful(&mut random);
+    hold(&mut random, &mut state, seed / 256 % 2 == 1);
+    let before = record_of(&state);
+    let mut record = lend(&before);
+    read_register(&mut record, number, seen)?;
+    for value in 0..=255 {
+        record.set(&before);
+        if write_register(&mut record, number, value, seen)? == DONE {
+            read_register(&mut record, number, seen)?;
+        }
+    }
+    Ok(())
+}
+
+/// 256 port numbers once each, and the four that there are with many values.
+fn ports(seed: u64, seen: &mut Seen) -> Done {
+    let mut random = Random::new(seed);
+    let before = record_of(&lawful(&mut random));
+    let mut record = lend(&before);
+    for low in 0..=255 {
+        let port = u16::from(seed as u8) << 8 | low;
+        record.set(&before);
+        read_port(&mut record, port, seen)?;
+        let value = value(&mut random);
+        write_port(&mut record, port, value, seen)?;
+    }
+    for _ in 0..100 {
+        let port = random.pick(&PORTS);
+        let value = value(&mut random);
+        write_port(&mut record, port, value, seen)?;
+        read_port(&mut record, port, seen)?;
+    }
+    Ok(())
+}
+
+/// A short or long run of calls. Narephon's side keeps nothing but the record, the model's nothing but the state.
+fn scripts(seed: u64, seen: &mut Seen) -> Done {
+    let mut random = Random::new(seed);
+    let steps = random.pick(&[1, 3, 10, 30, 100, 1_000]);
+    let mut state = State::reset();
+    let mut record = lend(&random.bytes(RECORD_LENGTH));
+    reset(&mut record, seen)?;
+    if random.one_in(2) {
+        state = lawful(&mut random);
+        record.set(&record_of(&state));
+    }
+    let mut banks = Banks::one(bank(&mut random));
+    for step in 0..steps {
+        let moved = script_step(&mut random, &mut record, &mut state, seen);
+        let kept = moved.and_then(|()| {
+            same_items("record kept", record.items(), &record_of(&state))?;
+            if step % 16 == 0 {
+                draw(&mut record, &mut banks, line(&mut random), DOTS, seen)?;
+            }
+            Ok(())
+        });
+        kept.map_err(|what| format!("step {step}: {what}"))?;
+    }
+    Ok(())
+}
+
+fn script_step(
+    random: &mut Random,
+    record: &mut Lent<u8>,
+    state: &mut State,
+    seen: &mut Seen,
+) -> Done {
+    let (number, port, value) = (register(random), port(random), value(random));
+    let (reply, (wanted, after)) = match random.below(32) {
+        0..=15 => (
+            write_register(record, number, value, seen)?,
+            model::write_register(state, number, value),
+        ),
+        16..=22 => (
+            write_port(record, port, value, seen)?,
+            model::write_port(state, port, value),
+        ),
+        23..=26 => (
+            read_register(record, number, seen)?,
+            (model::read_register(state, number).0, state.clone()),
+        ),
+        27 | 28 => (
+            read_port(record, port, seen)?,
+            (model::read_port(state, port).0, state.clone()),
+        ),
+        29 | 30 => (next_frame(record, seen)?, model::next_frame(state)),
+        _ if random.one_in(8) => (reset(record, seen)?, (DONE, State::reset())),
+        _ => return Ok(()),
+    };
+    *state = after;
+    same("reply to the state kept", reply, wanted)
+}
+
+/// Every call on the same bytes, which may be no record.
+fn every_call(random: &mut Random, bytes: &[u8], seen: &mut Seen) -> Done {
+    let mut record = lend(bytes);
+    read_register(&mut record, register(random), seen)?;
+    read_port(&mut record, port(random), seen)?;
+    next_frame(&mut record, seen)?;
+    record.set(bytes);
+    let (number, written) = (register(random), value(random));
+    write_register(&mut record, number, written, seen)?;
+    record.set(bytes);
+    let (number, written) = (port(random), value(random));
+    write_port(&mut record, number, written, seen)?;
+    record.set(bytes);
+    let mut banks = Banks::one(vec![random.byte(); 16_384]);
+    draw(&mut record, &mut banks, line(random), DOTS, seen)?;
+    reset(&mut record, seen)?;
+    Ok(())
+}
+
+/// A lawful record damaged.
+fn damaged_records(seed: u64, seen: &mut Seen) -> Done {
+    let mut random = Random::new(seed);
+    let mut bytes = record_of(&lawful(&mut random));
+    damage(&mut random, &mut bytes);
+    every_call(&mut random, &bytes, seen)
+}
+
+/// One byte of a record replaced: before the palettes by each value, in a palette by some.
+fn record_bytes(seed: u64, seen: &mut Seen) -> Done {
+    let mut random = Random::new(seed);
+    let place = (seed % RECORD_LENGTH as u64) as usize;
+    let mut bytes = record_of(&lawful(&mut random));
+    let mut record = lend(&bytes);
+    let some = [0, 1, 2, 3, 127, 128, 254, 255];
+    for byte in 0..=255 {
+        if place >= 102 && !some.contains(&byte) {
+            continue;
+        }
+        bytes[place] = byte;
+        record.set(&bytes);
+        let (number, port) = (register(&mut random), port(&mut random));
+        let written = value(&mut random);
+        match random.below(4) {
+            0 => write_register(&mut record, number, written, seen)?,
+            1 => write_port(&mut record, port, written, seen)?,
+            2 => read_register(&mut record, number, seen)?,
+            _ => read_port(&mut record, port, seen)?,
+        };
+        record.set(&bytes);
+        next_frame(&mut record, seen)?;
+    }
+    Ok(())
+}
+
+/// A record cut short, or with more bytes behind it.
+fn record_lengths(seed: u64, seen: &mut Seen) -> Done {
+    let mut random = Random::new(seed);
+    let length = match seed % 2_400 {
+        2_398 => 4_300,
+        2_399 => 65_536 + RECORD_LENGTH,
+        length => length as usize,
+    };
+    let mut bytes = record_of(&lawful(&mut random));
+    bytes.resize(length, 0);
+    every_call(&mut random, &bytes, seen)
+}
+
+/// A state led to a setting, and banks for it.
+fn setting(random: &mut Random, seed: u64) -> (Lent<u8>, Banks) {
+    let mut state = lawful(random);
+    lead(random, &mut state, seed);
+    let ula = bank(random);
+    let banks = if random.one_in(4) {
+        Banks::one(ula)
+    } else {
+        Banks::two(ula, bank(random))
+    };
+    (lend(&record_of(&state)), banks)
+}
+
+fn lines(seed: u64, seen: &mut Seen) -> Done {
+    let mut random = Random::new(seed);
+    let (mut record, mut banks) = setting(&mut random, seed);
+    for _ in 0..8 {
+        draw(&mut record, &mut banks, line(&mut random), DOTS, seen)?;
+    }
+    Ok(())
+}
+
+fn whole_screens(seed: u64, seen: &mut Seen) -> Done {
+    let mut random = Random::new(seed);
+    // A step that shares no factor with the settings spreads the few rounds over them.
+    let (mut record, mut banks) = setting(&mut random, seed.wrapping_mul(5));
+    for line in 0..256 {
+        draw(&mut record, &mut banks, line, DOTS, seen)?;
+    }
+    Ok(())
+}
+
+/// A bank of the right length or another.
+fn any_bank(random: &mut Random) -> Vec<u8> {
+    let other = random.pick(&[0, 1, 6_912, 16_383, 16_385, 32_768]);
+    let length = if random.one_in(4) { other } else { 16_384 };
+    vec![random.byte(); length]
+}
+
+/// Several things wrong with a line at once, so that the order of the replies shows.
+fn refused_lines(seed: u64, seen: &mut Seen) -> Done {
+    let mut random = Random::new(seed);
+    let mut bytes = record_of(&lawful(&mut random));
+    if random.one_in(3) {
+        damage(&mut random, &mut bytes);
+    }
+    let mut record = lend(&bytes);
+    let mut banks = Banks::two(any_bank(&mut random), any_bank(&mut random));
+    let above = random.pick(&[256, 257, 511, 512, 65_536, 1 << 31, u32::MAX]);
+    let wrong = random.pick(&[0, 1, 320, 639, 641, 1_280]);
+    for _ in 0..4 {
+        let line = if random.one_in(4) {
+            above
+        } else {
+            line(&mut random)
+        };
+        let length = if random.one_in(4) { wrong } else { DOTS };
+        draw(&mut record, &mut banks, line, length, seen)?;
+    }
+    Ok(())
+}
+
+/// What is mostly asked of a packing.
+const ASKED: Packing = Packing {
+    allowed: 256,
+    offset: 0,
+    map: 2_560,
+    definitions: 8_192,
+};
+
+/// A picture packed with all tiles allowed, with as many as it needs, and with one fewer.
+fn packings(seed: u64, seen: &mut Seen) -> Done {
+    let mut random = Random::new(seed);
+    let picture = pictures::picture(&mut random, seed);
+    let mut asked = ASKED;
+    asked.offset = random.below(16) as u32;
+    let (reply, count) = pack(&picture, asked, seen)?;
+    if reply != DONE {
+        asked.allowed = random.pick(&[0, 1, 100, 255]);
+        pack(&picture, asked, seen)?;
+        return Ok(());
+    }
+    asked.allowed = count;
+    same(
+        "reply to the count",
+        pack(&picture, asked, seen)?,
+        (DONE, count),
+    )?;
+    asked.allowed = count - 1;
+    same("reply to one fewer", pack(&picture, asked, seen)?.0, 11)
+}
+
+/// Screen values and packings beside their bounds, with wrong lengths in each place.
+fn bounds(seed: u64, seen: &mut Seen) -> Done {
+    let mut random = Random::new(seed);
+    for colour in 0..520 {
+        screen_value(colour, seen)?;
+    }
+    for _ in 0..20 {
+        let bits = random.below(33);
+        screen_value((random.number() & ((1 << bits) - 1)) as u32, seen)?;
+    }
+    let mut picture = vec![random.byte(); 40_960];
+    let any = random.number() as u32;
+    let asked = Packing {
+        allowed: random.pick(&[0, 1, 2, 255, 256, 257, 512, u32::MAX, any]),
+        offset: random.pick(&[0, 1, 14, 15, 15, 16, 17, 256, u32::MAX, any]),
+        map: length(&mut random, 2_560),
+        definitions: length(&mut random, 8_192),
+    };
+    picture.resize(length(&mut random, 40_960), 0);
+    pack(&picture, asked, seen)?;
+    Ok(())
+}
+
+/// The right length, or now and then another.
+fn length(random: &mut Random, right: usize) -> usize {
+    let other = random.below(2 * right as u64) as usize;
+    let wrong = random.pick(&[0, 1, right - 1, right + 1, 2 * right, other]);
+    if random.one_in(6) {
+        wrong
+    } else {
+        right
+    }
+}

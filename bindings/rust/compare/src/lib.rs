@@ -1,0 +1,10 @@
+//! Narephon's exported calls held to `model` on random inputs, and what the comparison and the benchmark share.
+
+pub mod calls;
+pub mod jobs;
+pub mod lent;
+pub mod pictures;
+pub mod random;
+pub mod seen;
+pub mod states;
+pub mod timing;

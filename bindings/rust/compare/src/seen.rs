@@ -1,0 +1,196 @@
+//! How often each reply and each kind of line was reached.
+
+use model::ula::{colouring, Colouring};
+use model::{ula_mode, Mode, State};
+use std::collections::BTreeMap;
+use std::fmt::Write;
+
+/// The exported calls.
+#[derive(Clone, Copy, Debug, PartialEq, Eq, PartialOrd, Ord)]
+pub enum Call {
+    Reset,
+    NextFrame,
+    WriteRegister,
+    WritePort,
+    ReadRegister,
+    ReadPort,
+    Draw,
+    ScreenValue,
+    Pack,
+}
+
+/// The replies that each call can give. No call gives 4: an unlawful state can only come in a record, and such a record
+/// is 13.
+const POSSIBLE: [(Call, &[u8]); 9] = [
+    (Call::Reset, &[0, 3]),
+    (Call::NextFrame, &[0, 13]),
+    (Call::WriteRegister, &[0, 9, 10, 13]),
+    (Call::WritePort, &[0, 9, 10, 13]),
+    (Call::ReadRegister, &[0, 9, 13]),
+    (Call::ReadPort, &[0, 9, 13]),
+    (Call::Draw, &[0, 1, 2, 3, 5, 6, 7, 8, 13]),
+    (Call::ScreenValue, &[0, 10]),
+    (Call::Pack, &[0, 3, 11, 12]),
+];
+
+const MODES: [(Mode, &str); 6] = [
+    (Mode::Zero, "0"),
+    (Mode::One, "1"),
+    (Mode::Two, "2"),
+    (Mode::Six, "6"),
+    (Mode::Lores, "LoRes"),
+    (Mode::Off, "off"),
+];
+
+const COLOURINGS: [(Colouring, &str); 3] = [
+    (Colouring::Plain, "plain"),
+    (Colouring::UlaNext, "ULANext"),
+    (Colouring::UlaPlus, "ULAplus"),
+];
+
+/// Columns (0 without a tilemap), one byte an entry, stencil.
+type Tiles = (u32, bool, bool);
+
+const TILES: [(Tiles, &str); 9] = [
+    ((0, false, false), "none"),
+    ((40, false, false), "40"),
+    ((40, false, true), "40 s"),
+    ((40, true, false), "40 b"),
+    ((40, true, true), "40 bs"),
+    ((80, false, false), "80"),
+    ((80, false, true), "80 s"),
+    ((80, true, false), "80 b"),
+    ((80, true, true), "80 bs"),
+];
+
+fn tiles(state: &State) -> Tiles {
+    if state.tilemap_on() {
+        (state.columns(), state.one_byte_entries(), state.stencil())
+    } else {
+        (0, false, false)
+    }
+}
+
+/// LoRes beside a tilemap is reply 6.
+fn drawable(mode: Mode, tiles: Tiles) -> bool {
+    mode != Mode::Lores || tiles.0 == 0
+}
+
+#[derive(Default)]
+pub struct Seen {
+    replies: BTreeMap<(Call, u8), u64>,
+    lines: BTreeMap<(Mode, Colouring, Tiles), u64>,
+}
+
+impl Seen {
+    pub fn reply(&mut self, call: Call, reply: u8) {
+        *self.replies.entry((call, reply)).or_default() += 1;
+    }
+
+    /// A line that was drawn.
+    pub fn line(&mut self, state: &State) {
+        let kind = (ula_mode(state), colouring(state), tiles(state));
+        *self.lines.entry(kind).or_default() += 1;
+    }
+
+    pub fn add(&mut self, other: &Seen) {
+        for (&key, count) in &other.replies {
+            *self.replies.entry(key).or_default() += count;
+        }
+        for (&key, count) in &other.lines {
+            *self.lines.entry(key).or_default() += count;
+        }
+    }
+
+    fn replies_of(&self, call: Call, reply: u8) -> u64 {
+        self.replies.get(&(call, reply)).copied().unwrap_or(0)
+    }
+
+    fn lines_where(&self, wanted: impl Fn(Mode, Colouring, Tiles) -> bool) -> u64 {
+        let lines = self.lines.iter();
+        lines
+            .filter(|((mode, colouring, tiles), _)| wanted(*mode, *colouring, *tiles))
+            .map(|(_, count)| count)
+            .sum()
+    }
+
+    /// What should have been reached and was not.
+    pub fn missing(&self) -> Vec<String> {
+        let mut missing = Vec::new();
+        for (call, replies) in POSSIBLE {
+            for &reply in replies {
+                if self.replies_of(call, reply) == 0 {
+                    missing.push(format!("{call:?} reply {reply}"));
+                }
+            }
+        }
+        for (mode, mode_name) in MODES {
+            for (rule, rule_name) in COLOURINGS {
+                for (set, set_name) in TILES {
+                    let lines = self.lines_where(|m, r, t| (m, r, t) == (mode, rule, set));
+                    if lines == 0 && drawable(mode, set) {
+                        missing.push(format!("mode {mode_name}, {rule_name}, tilemap {set_name}"));
+                    }
+                }
+            }
+        }
+        missing
+    }
+
+    /// The counts as text.
+    pub fn report(&self) -> String {
+        let mut text = self.reply_report();
+        for (mode, name) in MODES {
+            let lines = self.lines_where(|m, _, _| m == mode);
+            let _ = writeln!(text, "mode {name}: {lines} lines");
+        }
+        for (rule, name) in COLOURINGS {
+            let lines = self.lines_where(|_, r, _| r == rule);
+            let _ = writeln!(text, "{name}: {lines} lines");
+        }
+        text + &self.line_report()
+    }
+
+    fn reply_report(&self) -> String {
+        let mut text = String::from("calls by reply:\n              ");
+        for reply in 0..14 {
+            let _ = write!(text, "{reply:>8}");
+        }
+        text.push('\n');
+        for (call, _) in POSSIBLE {
+            let _ = write!(text, "{:<14}", format!("{call:?}"));
+            for reply in 0..14 {
+                let _ = write!(text, "{:>8}", self.replies_of(call, reply));
+            }
+            text.push('\n');
+        }
+        text += "all           ";
+        for reply in 0..14 {
+            let all = POSSIBLE.map(|(call, _)| self.replies_of(call, reply));
+            let _ = write!(text, "{:>8}", all.iter().sum::<u64>());
+        }
+        text + "\nreply 4 never comes: a record of an unlawful state is 13\n"
+    }
+
+    fn line_report(&self) -> String {
+        let mut text = String::from(
+            "lines by tilemap columns (b: one byte an entry, s: stencil; LoRes beside a tilemap is reply 6):\n",
+        );
+        let _ = write!(text, "{:<14}", "");
+        for (_, name) in TILES {
+            let _ = write!(text, "{name:>8}");
+        }
+        text.push('\n');
+        for (mode, mode_name) in MODES {
+            for (rule, rule_name) in COLOURINGS {
+                let _ = write!(text, "{:<14}", format!("{mode_name} {rule_name}"));
+                for (set, _) in TILES {
+                    let lines = self.lines_where(|m, r, t| (m, r, t) == (mode, rule, set));
+                    let _ = write!(text, "{lines:>8}");
+                }
+                text.push('\n');
+            }
+        }
+        text
+    }
+}

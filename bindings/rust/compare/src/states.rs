@@ -1,0 +1,243 @@
+//! States made lawful by construction, their records, and records damaged.
+
+use crate::random::Random;
+use model::{State, RECORD_LENGTH};
+
+/// The record of a lawful state.
+pub fn record_of(state: &State) -> Vec<u8> {
+    let mut record = vec![0; RECORD_LENGTH];
+    let reply = model::write_record(state, &mut record);
+    assert_eq!(reply, 0, "the state is not lawful");
+    record
+}
+
+/// A lawful state with every field at random.
+pub fn lawful(random: &mut Random) -> State {
+    let mut state = State::reset();
+    ula_fields(random, &mut state);
+    tile_fields(random, &mut state);
+    let written = random.pick(&[0x00, 0x40, 0x30, 0x70]);
+    state.palette_control = written | random.byte() & 0x8F;
+    let any = random.byte();
+    state.palette_index = random.pick(&[0, 254, 255, any, any]);
+    let held = random.one_in(2);
+    hold(random, &mut state, held);
+    state.ula_turn = random.below(4) as u8;
+    state.tile_turn = random.below(4) as u8;
+    state.select = random.below(128) as u8;
+    state.plus_on = random.one_in(2);
+    let any = random.byte();
+    state.frame = random.pick(&[0, 15, 16, 254, 255, any, any, any]);
+    state.fallback = random.byte();
+    for byte in &mut state.plus {
+        *byte = random.byte();
+    }
+    palettes(random, &mut state);
+    assert!(model::lawful(&state));
+    state
+}
+
+/// Sets or drops the half of a colour that $44 holds.
+pub fn hold(random: &mut Random, state: &mut State, held: bool) {
+    state.held = held;
+    state.half = if held { random.byte() } else { 0 };
+}
+
+fn ula_fields(random: &mut Random, state: &mut State) {
+    state.peripheral = random.byte();
+    state.layers = random.byte();
+    state.timex = random.byte();
+    state.border = random.below(8) as u8;
+    let any = random.byte();
+    state.ula_x = random.pick(&[0, 7, 8, 255, any, any]);
+    let any = random.below(192) as u8;
+    state.ula_y = random.pick(&[0, 1, 191, any, any]);
+    state.ink_mask = random.pick(&[1, 3, 7, 15, 31, 63, 127, 255]);
+    state.ula_control = random.byte() & 0xC1;
+    state.ula_clip = clip(random, [0, 255, 0, 191]);
+}
+
+fn tile_fields(random: &mut Random, state: &mut State) {
+    state.tile_control = random.byte() & 0xF0;
+    state.tile_attribute = random.byte();
+    state.tile_transparent = random.below(16) as u8;
+    state.map_base = random.below(64) as u8;
+    state.definition_base = random.below(64) as u8;
+    let offset = random.below(1_024);
+    tile_x(state, offset);
+    let any = random.byte();
+    state.tile_y = random.pick(&[0, 1, 191, 192, 255, any, any, any]);
+    state.tile_clip = clip(random, [0, 159, 0, 255]);
+}
+
+fn tile_x(state: &mut State, offset: u64) {
+    state.tile_x_high = (offset / 256) as u8;
+    state.tile_x_low = (offset % 256) as u8;
+}
+
+/// The clip of a reset, one nearly as wide, or any: a clip at random is mostly empty.
+fn clip(random: &mut Random, whole: [u8; 4]) -> [u8; 4] {
+    match random.below(4) {
+        0 | 1 => whole,
+        2 => {
+            let near = random.below(64) as u8;
+            let far = random.below(64) as u8;
+            [near, whole[1] - far, near / 2, whole[3] - far / 2]
+        }
+        _ => [0; 4].map(|_| random.byte()),
+    }
+}
+
+/// Palettes of all colours or of few, so that $14 is often met.
+fn palettes(random: &mut Random, state: &mut State) {
+    let few = [0; 4].map(|_| random.below(512) as u16);
+    let all = random.one_in(2);
+    for colour in state.palettes.iter_mut().flatten() {
+        *colour = if all {
+            random.below(512) as u16
+        } else {
+            random.pick(&few)
+        };
+    }
+    let register = state.plus[random.below(32) as usize];
+    state.transparent = match random.below(4) {
+        0 => (few[0] / 2) as u8,
+        1 => (model::plus_colour(register) / 2) as u8,
+        2 => state.fallback,
+        _ => random.byte(),
+    };
+}
+
+/// How many settings [`lead`] tells apart.
+pub const SETTINGS: u64 = 8 * 3 * 9;
+
+/// Leads a state to a mode, a colouring and a tilemap setting, all of them told by the setting's number; now and then
+/// to one of the refusals beside it.
+pub fn lead(random: &mut Random, state: &mut State, setting: u64) {
+    lead_mode(random, state, setting % 8);
+    let rule = setting / 8 % 3;
+    state.palette_control = state.palette_control & 0xFE | u8::from(rule == 1);
+    state.plus_on = rule == 2 || rule == 1 && random.one_in(16);
+    lead_tiles(random, state, setting / 24 % 9);
+    // Most LoRes lines go without a tilemap, for the two together are refused.
+    if state.lores() && !random.one_in(8) {
+        state.tile_control &= 0x7F;
+    }
+    assert!(model::lawful(state));
+}
+
+fn lead_mode(random: &mut Random, state: &mut State, mode: u64) {
+    state.ula_control &= 0x7F;
+    state.layers &= 0x7F;
+    state.peripheral |= 4;
+    state.timex &= 0xF8;
+    match mode {
+        0 => {}
+        1 => state.timex |= 1,
+        2 => state.timex |= 2,
+        3 => state.timex |= 6,
+        4 => {
+            state.layers |= 0x80;
+            state.timex |= random.byte() & 7;
+        }
+        5 => {
+            state.ula_control |= 0x80;
+            state.timex |= random.byte() & 7;
+            state.layers |= if random.one_in(8) { 0x80 } else { 0 };
+        }
+        6 => state.timex |= random.pick(&[3, 4, 5, 7]),
+        _ => {
+            state.peripheral &= 0xFB;
+            state.timex |= random.byte() & 7;
+        }
+    }
+}
+
+/// 0 is no tilemap; else columns, bytes of an entry and stencil.
+fn lead_tiles(random: &mut Random, state: &mut State, tiles: u64) {
+    if tiles == 0 {
+        state.tile_control &= 0x7F;
+        return;
+    }
+    let flags = tiles - 1;
+    let width = if flags & 1 != 0 { 640 } else { 320 };
+    let palette = state.tile_control & 0x10;
+    let columns = if flags & 1 != 0 { 0x40 } else { 0 };
+    let one_byte = if flags & 2 != 0 { 0x20 } else { 0 };
+    state.tile_control = 0x80 | columns | one_byte | palette;
+    state.ula_control = state.ula_control & 0xC0 | u8::from(flags & 4 != 0);
+    let near = random.pick(&[0, 1, 7, 8, 9, width - 8, width - 1]);
+    let offset = match random.below(16) {
+        0 => random.pick(&[width, width + 1, 1_023]),
+        1..=5 => near,
+        _ => random.below(width),
+    };
+    tile_x(state, offset);
+}
+
+/// A value for a register or a port: any, small, a mask, or beside a bound.
+pub fn value(random: &mut Random) -> u8 {
+    match random.below(4) {
+        0 => random.below(4) as u8,
+        1 => random.pick(&[1, 3, 7, 15, 31, 63, 127, 255]),
+        2 => random.pick(&[0, 2, 4, 5, 8, 16, 64, 128, 190, 191, 192, 254]),
+        _ => random.byte(),
+    }
+}
+
+/// Damages the record of a lawful state. What comes out may still be one.
+pub fn damage(random: &mut Random, record: &mut Vec<u8>) {
+    match random.below(12) {
+        0..=4 => spoil_byte(random, record),
+        5 => {
+            let place = random.below(record.len() as u64) as usize;
+            record[place] ^= 1 << random.below(8);
+        }
+        6 => {
+            // A half that none holds.
+            record[31] = 0;
+            record[32] = 1 + random.below(255) as u8;
+        }
+        7 => record.truncate(random.below(2_150) as usize),
+        8 => {
+            let more = random.pick(&[1, 2, 3, 64, 2_150]);
+            record.extend(random.bytes(more));
+        }
+        9 => *record = random.bytes(RECORD_LENGTH),
+        10 => {
+            let rest = random.bytes(RECORD_LENGTH - 3);
+            record[3..].copy_from_slice(&rest);
+        }
+        _ => {
+            for _ in 0..random.below(5) {
+                spoil_byte(random, record);
+            }
+        }
+    }
+}
+
+/// Another byte in one place, mostly among the first, which have the most bounds, or in the high half of a colour.
+fn spoil_byte(random: &mut Random, record: &mut [u8]) {
+    let place = match random.below(4) {
+        0 | 1 => random.below(40) as usize,
+        2 => 102 + 2 * random.below(1_024) as usize,
+        _ => random.below(2_150) as usize,
+    };
+    record[place] = random.byte();
+}
+
+/// A bank of noise, or of few values.
+pub fn bank(random: &mut Random) -> Vec<u8> {
+    let few = [0; 4].map(|_| random.byte());
+    if random.one_in(4) {
+        return (0..16_384).map(|_| random.pick(&few)).collect();
+    }
+    random.bytes(16_384)
+}
+
+/// A line, in every second case beside the edges of screen and display.
+pub fn line(random: &mut Random) -> u32 {
+    let any = random.below(256) as u32;
+    let edge = random.pick(&[0, 1, 31, 32, 33, 95, 96, 127, 128, 222, 223, 224, 254, 255]);
+    random.pick(&[any, edge])
+}

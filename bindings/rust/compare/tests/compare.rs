@@ -1,0 +1,144 @@
+//! Every exported call against the model.
+//!
+//! `NAREPHON_SEED` sets the seed of the first round of every job: set to the seed that a difference was printed with, it
+//! makes that round come first. `NAREPHON_SAMPLE` names a folder with the files `record`, `ula` and `tile`
+//! whose 256 lines are drawn by both.
+
+use compare::jobs::{Job, JOBS};
+use compare::seen::Seen;
+use std::io::Write;
+use std::path::PathBuf;
+use std::sync::atomic::{AtomicUsize, Ordering};
+use std::sync::Mutex;
+use std::thread;
+
+const FIRST_SEED: u64 = 20_000;
+
+/// Goes out from a passing test too, which `println!` does not.
+fn say(text: &str) {
+    let mut out = std::io::stdout().lock();
+    writeln!(out, "{text}").expect("standard output is open");
+}
+
+fn first_seed() -> u64 {
+    match std::env::var("NAREPHON_SEED") {
+        Ok(seed) => seed.parse().expect("NAREPHON_SEED is a number"),
+        Err(_) => FIRST_SEED,
+    }
+}
+
+/// The first round of each job, then the second of each, and so on, so that a round replayed comes at once.
+fn rounds(first: u64) -> Vec<(&'static Job, u64)> {
+    let longest = JOBS.iter().map(|job| job.rounds).max().unwrap_or(0);
+    let mut rounds = Vec::new();
+    for round in 0..longest {
+        let jobs = JOBS.iter().filter(|job| round < job.rounds);
+        rounds.extend(jobs.map(|job| (job, first.wrapping_add(round))));
+    }
+    rounds
+}
+
+/// What the workers share: the next round, and the first difference by the round's place.
+struct Shared {
+    rounds: Vec<(&'static Job, u64)>,
+    next: AtomicUsize,
+    difference: Mutex<Option<(usize, String)>>,
+}
+
+/// Takes rounds until none is left or one of them differs.
+fn work(shared: &Shared) -> Seen {
+    let mut seen = Seen::default();
+    loop {
+        let place = shared.next.fetch_add(1, Ordering::Relaxed);
+        let Some((job, seed)) = shared.rounds.get(place) else {
+            return seen;
+        };
+        if shared.difference.lock().expect("no worker stops").is_some() {
+            return seen;
+        }
+        if let Err(what) = (job.run)(*seed, &mut seen) {
+            let text = format!("NAREPHON_SEED={seed} {}: {what}", job.name);
+            let mut difference = shared.difference.lock().expect("no worker stops");
+            if difference
+                .as_ref()
+                .is_none_or(|(earlier, _)| place < *earlier)
+            {
+                *difference = Some((place, text));
+            }
+        }
+    }
+}
+
+#[test]
+fn every_call_against_the_model() {
+    let first = first_seed();
+    let shared = Shared {
+        rounds: rounds(first),
+        next: AtomicUsize::new(0),
+        difference: Mutex::new(None),
+    };
+    let workers = thread::available_parallelism().map_or(2, |count| count.get());
+    let mut seen = Seen::default();
+    thread::scope(|scope| {
+        let started: Vec<_> = (0..workers)
+            .map(|_| scope.spawn(|| work(&shared)))
+            .collect();
+        for worker in started {
+            seen.add(&worker.join().expect("a worker ends"));
+        }
+    });
+    if let Some((_, text)) = shared.difference.into_inner().expect("no worker stops") {
+        panic!("{text}");
+    }
+    say(&format!("first seed {first}"));
+    say(&seen.report());
+    let missing = seen.missing();
+    assert!(missing.is_empty(), "never reached: {}", missing.join("; "));
+}
+
+/// 33 replies and 138 kinds of line are asked for.
+#[test]
+fn what_is_not_reached_is_missed() {
+    assert_eq!(Seen::default().missing().len(), 33 + 138);
+}
+
+/// The preview's sample: a record, the ULA bank and the tile bank.
+struct Sample {
+    record: Vec<u8>,
+    ula: Vec<u8>,
+    tile: Vec<u8>,
+}
+
+/// The sample in the folder that `NAREPHON_SAMPLE` names; none without it.
+fn sample_state_and_banks() -> Option<Sample> {
+    let folder = PathBuf::from(std::env::var_os("NAREPHON_SAMPLE")?);
+    let read = |name: &str| {
+        let path = folder.join(name);
+        std::fs::read(&path).unwrap_or_else(|fault| panic!("{}: {fault}", path.display()))
+    };
+    Some(Sample {
+        record: read("record"),
+        ula: read("ula"),
+        tile: read("tile"),
+    })
+}
+
+#[test]
+fn the_previews_sample() {
+    let Some(sample) = sample_state_and_banks() else {
+        say("the preview's sample: not drawn, NAREPHON_SAMPLE is not set");
+        return;
+    };
+    let (reply, state) = model::read_record(&sample.record);
+    assert_eq!(reply, 0, "the sample's record");
+    for line in 0..256 {
+        let mut wanted = [0xAAAA; model::DOTS];
+        let mut dots = wanted;
+        let reply = model::draw(line, &sample.ula, &sample.tile, &state, &mut wanted);
+        assert_eq!(reply, 0, "the model's reply to line {line}");
+        let answer = narephon::draw(&sample.record, &sample.ula, &sample.tile, line, &mut dots);
+        assert_eq!(answer, Ok(()), "line {line}");
+        assert!(dots == wanted, "line {line} differs");
+    }
+    say("the preview's sample: 256 lines drawn alike");
+}

@@ -1,0 +1,33 @@
+//! A ZX Spectrum Next line drawer, register write, stored record and tile
+//! packer, written for speed: the state is read once a line, colours are
+//! looked up once a cell.
+
+mod draw;
+mod pack;
+mod record;
+mod registers;
+mod state;
+
+pub use draw::draw;
+pub use pack::{fewest, pack, pack_plain};
+pub use record::{read_record, write_record, RECORD_LENGTH};
+pub use registers::{write_port, write_register};
+pub use state::{lawful, State};
+
+/// The bytes of a bank.
+pub const BANK_LENGTH: usize = 16_384;
+
+/// The dots of a line.
+pub const DOTS: usize = 640;
+
+/// An eight-bit colour with its ninth bit, the OR of its two blue bits.
+fn widen(value: u8) -> u16 {
+    let wide = u16::from(value);
+    wide << 1 | (wide >> 1 | wide) & 1
+}
+
+/// The colour of a ULAplus byte GGGRRRBb; its blue is Bbb.
+fn plus_colour(value: u8) -> u16 {
+    let wide = u16::from(value);
+    (wide & 0x1C) << 4 | (wide & 0xE0) >> 2 | (wide & 3) << 1 | wide & 1
+}

@@ -1,0 +1,111 @@
+//! The quick register writes and records held to the model.
+
+mod common;
+
+use common::{lawful_state, quick, spoil, Random};
+
+#[test]
+fn lawfulness() {
+    let mut random = Random::new(11);
+    for _ in 0..2_000 {
+        let mut state = lawful_state(&mut random);
+        assert!(fast::lawful(&quick(&state)));
+        spoil(&mut random, &mut state);
+        assert!(!fast::lawful(&quick(&state)));
+    }
+    assert_eq!(quick(&model::State::reset()), fast::State::reset());
+}
+
+#[test]
+fn a_long_run_of_writes() {
+    let mut random = Random::new(12);
+    let mut state = model::State::reset();
+    let mut written = fast::State::reset();
+    let ports = [0x00FE, 0x00FF, 0xBF3B, 0xFF3B, 0x01FF, 0x243B];
+    for _ in 0..60_000 {
+        let value = match random.below(3) {
+            0 => random.byte(),
+            1 => random.below(4) as u8,
+            _ => random.pick(&[1, 3, 7, 15, 31, 63, 127, 255]),
+        };
+        let (reply, after) = if random.chance(4) {
+            let port = random.pick(&ports);
+            let (reply, after) = model::write_port(&state, port, value);
+            assert_eq!(fast::write_port(&mut written, port, value), reply);
+            (reply, after)
+        } else {
+            let any = random.byte();
+            let number = random.pick(&[0x40, 0x41, 0x43, 0x44, 0x44, 0x1A, any]);
+            let (reply, after) = model::write_register(&state, number, value);
+            assert_eq!(fast::write_register(&mut written, number, value), reply);
+            (reply, after)
+        };
+        assert_eq!(written, quick(&after), "{reply}");
+        state = after;
+    }
+}
+
+#[test]
+fn each_register_and_value_from_many_states() {
+    let mut random = Random::new(13);
+    for round in 0..6 {
+        let mut state = lawful_state(&mut random);
+        if round == 5 {
+            spoil(&mut random, &mut state);
+        }
+        state.held = round % 2 == 0;
+        state.half = if state.held { random.byte() } else { 0 };
+        for number in 0..=255 {
+            for value in 0..=255 {
+                let (reply, after) = model::write_register(&state, number, value);
+                let mut written = quick(&state);
+                assert_eq!(fast::write_register(&mut written, number, value), reply);
+                if reply == 0 || value == 255 {
+                    assert_eq!(written, quick(&after));
+                }
+            }
+        }
+    }
+}
+
+#[test]
+fn records_written() {
+    let mut random = Random::new(14);
+    for _ in 0..1_000 {
+        let mut state = lawful_state(&mut random);
+        if random.chance(4) {
+            spoil(&mut random, &mut state);
+        }
+        let length = random.pick(&[2_150, 2_150, 2_150, 2_149, 2_151, 0]);
+        let mut expected = vec![0xAA; length];
+        let mut written = expected.clone();
+        let reply = model::write_record(&state, &mut expected);
+        assert_eq!(fast::write_record(&quick(&state), &mut written), reply);
+        assert_eq!(written, expected);
+    }
+}
+
+#[test]
+fn records_read() {
+    let mut random = Random::new(15);
+    let mut seen = [0; 14];
+    for round in 0..3_000 {
+        let mut bytes = vec![0; 2_150];
+        assert_eq!(
+            model::write_record(&lawful_state(&mut random), &mut bytes),
+            0
+        );
+        if round % 3 != 0 {
+            // Mostly among the first bytes, which have the most bounds.
+            let bound = random.pick(&[40, 2_150]);
+            bytes[random.below(bound) as usize] = random.byte();
+        }
+        if random.chance(10) {
+            bytes.resize(random.pick(&[0, 2, 2_149, 2_151]), 0);
+        }
+        let (reply, state) = model::read_record(&bytes);
+        assert_eq!(fast::read_record(&bytes), (reply, quick(&state)));
+        seen[usize::from(reply)] += 1;
+    }
+    assert!(seen[0] > 500 && seen[13] > 500);
+}

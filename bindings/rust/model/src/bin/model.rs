@@ -1,0 +1,139 @@
+//! Works out expected answers: register scripts, records, lines, packings.
+
+use model::reply::{DONE, NO_SUCH_REGISTER};
+use model::sums::dots_sum;
+use model::{
+    draw, next_frame, pack, read_port, read_record, read_register, write_port, write_record,
+    write_register, State, DOTS, RECORD_LENGTH,
+};
+use std::env::args;
+use std::fs::read;
+use std::process::ExitCode;
+
+const USAGE: &str = "usage: model script FILE
+       model record FILE
+       model lines RECORD ULABANK TILEBANK
+       model pack FILE";
+
+fn main() -> ExitCode {
+    let words: Vec<String> = args().skip(1).collect();
+    let words: Vec<&str> = words.iter().map(String::as_str).collect();
+    let answer = match words[..] {
+        ["script", file] => load(file).and_then(|bytes| script(&bytes)),
+        ["record", file] => load(file).map(|bytes| record(&bytes)),
+        ["lines", record, ula, tile] => lines(record, ula, tile),
+        ["pack", file] => load(file).map(|bytes| packing(&bytes)),
+        _ => Err(USAGE.to_string()),
+    };
+    match answer {
+        Ok(text) => {
+            print!("{text}");
+            ExitCode::SUCCESS
+        }
+        Err(text) => {
+            eprintln!("{text}");
+            ExitCode::FAILURE
+        }
+    }
+}
+
+/// All bytes of a file.
+fn load(name: &str) -> Result<Vec<u8>, String> {
+    read(name).map_err(|fault| format!("{name}: {fault}"))
+}
+
+/// Runs a script from the reset state, four bytes an entry: kind, number high,
+/// number low, value.
+fn script(bytes: &[u8]) -> Result<String, String> {
+    let entries = bytes.chunks_exact(4);
+    if !entries.remainder().is_empty() {
+        return Err("a script has four bytes an entry".to_string());
+    }
+    let mut state = State::reset();
+    let mut text = String::new();
+    for entry in entries {
+        let number = u16::from_be_bytes([entry[1], entry[2]]);
+        text += &step(&mut state, entry[0], number, entry[3])?;
+        text.push('\n');
+    }
+    Ok(text)
+}
+
+/// One entry of a script. A register number above 255 is no register.
+fn step(state: &mut State, kind: u8, number: u16, value: u8) -> Result<String, String> {
+    let register = u8::try_from(number);
+    let (line, after) = match kind {
+        0 => {
+            let (reply, after) = match register {
+                Ok(register) => write_register(state, register, value),
+                Err(_) => (NO_SUCH_REGISTER, state.clone()),
+            };
+            (format!("wr {number} {value}: {reply}"), after)
+        }
+        1 => {
+            let (reply, after) = write_port(state, number, value);
+            (format!("wp {number} {value}: {reply}"), after)
+        }
+        2 => {
+            let (reply, byte) = match register {
+                Ok(register) => read_register(state, register),
+                Err(_) => (NO_SUCH_REGISTER, 0),
+            };
+            (format!("rr {number}: {reply} {byte}"), state.clone())
+        }
+        3 => {
+            let (reply, byte) = read_port(state, number);
+            (format!("rp {number}: {reply} {byte}"), state.clone())
+        }
+        4 => {
+            let (reply, after) = next_frame(state);
+            (format!("nf: {reply}"), after)
+        }
+        5 => ("rs: 0".to_string(), State::reset()),
+        _ => return Err(format!("no such kind of entry: {kind}")),
+    };
+    *state = after;
+    Ok(line)
+}
+
+/// The reply of reading a record and, where it is 0, whether writing gives the
+/// same bytes.
+fn record(bytes: &[u8]) -> String {
+    let (reply, state) = read_record(bytes);
+    if reply != DONE {
+        return format!("{reply}\n");
+    }
+    let mut written = vec![0; RECORD_LENGTH];
+    let same = write_record(&state, &mut written) == DONE && written == bytes;
+    format!("{reply} {}\n", if same { "same" } else { "different" })
+}
+
+/// The reply and the Adler-32 of each of the 256 lines.
+fn lines(record: &str, ula: &str, tile: &str) -> Result<String, String> {
+    let (reply, state) = read_record(&load(record)?);
+    if reply != DONE {
+        return Err(format!("{record}: refused {reply}"));
+    }
+    let (ula, tile) = (load(ula)?, load(tile)?);
+    let mut text = String::new();
+    for line in 0..256 {
+        let mut dots = [0; DOTS];
+        let reply = draw(line, &ula, &tile, &state, &mut dots);
+        if reply == DONE {
+            text += &format!("{reply} {:08x}\n", dots_sum(&dots));
+        } else {
+            text += &format!("{reply} -\n");
+        }
+    }
+    Ok(text)
+}
+
+/// "allows 256, uses offset 0, and prints one line, `tiles N` or `refused N`."
+fn packing(picture: &[u8]) -> String {
+    let mut map = [0; 2_560];
+    let mut definitions = [0; 8_192];
+    match pack(picture, 256, 0, &mut map, &mut definitions) {
+        (DONE, count) => format!("tiles {count}\n"),
+        (reply, _) => format!("refused {reply}\n"),
+    }
+}

@@ -1,0 +1,84 @@
+//! One line of 640 dots.
+
+use crate::colour::widen;
+use crate::reply::{
+    Reply, DONE, LINE_ABOVE_255, LORES_AND_TILEMAP, NOT_LAWFUL, NO_SUCH_MODE, ULANEXT_AND_ULAPLUS,
+    WRONG_BANK, WRONG_BUFFER, X_OFFSET_TOO_LARGE,
+};
+use crate::state::{lawful, State};
+use crate::tilemap::{tile_dot, Layout};
+use crate::ula::{ula_dot, ula_mode, Mode};
+use crate::{BANK_LENGTH, DOTS};
+
+/// Draws one line. A refusal leaves the lent line as it came.
+pub fn draw(line: u32, ula: &[u8], tile: &[u8], state: &State, out: &mut [u16]) -> Reply {
+    let reply = refusal(line, ula, tile, state, out);
+    if reply != DONE {
+        return reply;
+    }
+    for (dot, colour) in out.iter_mut().enumerate() {
+        *colour = dot_colour(line, dot as u32, ula, tile, state);
+    }
+    DONE
+}
+
+/// "Drawing: 1, 2, 3, 4, 6, 7, 5, 8."
+fn refusal(line: u32, ula: &[u8], tile: &[u8], state: &State, out: &[u16]) -> Reply {
+    if line > 255 {
+        return LINE_ABOVE_255;
+    }
+    if ula.len() != BANK_LENGTH || tile.len() != BANK_LENGTH {
+        return WRONG_BANK;
+    }
+    if out.len() != DOTS {
+        return WRONG_BUFFER;
+    }
+    if !lawful(state) {
+        return NOT_LAWFUL;
+    }
+    if state.lores() && state.tilemap_on() {
+        return LORES_AND_TILEMAP;
+    }
+    if state.ulanext() && state.plus_on {
+        return ULANEXT_AND_ULAPLUS;
+    }
+    if ula_mode(state) == Mode::NoMode {
+        return NO_SUCH_MODE;
+    }
+    if state.tilemap_on() && state.tile_x() >= Layout::of(state).width() {
+        return X_OFFSET_TOO_LARGE;
+    }
+    DONE
+}
+
+/// "Transparent at the end: the fallback, widened as $41."
+fn dot_colour(line: u32, dot: u32, ula: &[u8], tile: &[u8], state: &State) -> u16 {
+    let ula_colour = ula_dot(line, dot, ula, state);
+    let tile_dot = tile_dot(line, dot, tile, state);
+    let stencil = state.stencil() && state.ula_on() && state.tilemap_on();
+    let composed = if stencil {
+        stencilled(ula_colour, tile_dot.colour)
+    } else if tile_dot.bit_8 {
+        // "the ULA is upper when the entry's bit 8 is set."
+        upper_or_lower(ula_colour, tile_dot.colour)
+    } else {
+        upper_or_lower(tile_dot.colour, ula_colour)
+    };
+    composed.unwrap_or(widen(state.fallback))
+}
+
+/// "stencil with both on, AND of both colours, or transparent if either is."
+fn stencilled(ula: Option<u16>, tile: Option<u16>) -> Option<u16> {
+    match (ula, tile) {
+        (Some(ula), Some(tile)) => Some(ula & tile),
+        _ => None,
+    }
+}
+
+/// "Else the upper dot unless transparent, then the lower".
+fn upper_or_lower(upper: Option<u16>, lower: Option<u16>) -> Option<u16> {
+    match upper {
+        Some(colour) => Some(colour),
+        None => lower,
+    }
+}

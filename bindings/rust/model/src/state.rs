@@ -1,0 +1,276 @@
+//! The state, its bounds, reset and the next frame.
+
+use crate::reply::{Reply, DONE, NOT_LAWFUL};
+
+/// Places of the four palettes in [`State::palettes`]: "ULA first and second,
+/// tilemap first and second".
+pub const ULA_FIRST: usize = 0;
+pub const ULA_SECOND: usize = 1;
+pub const TILEMAP_FIRST: usize = 2;
+pub const TILEMAP_SECOND: usize = 3;
+
+/// Every register as its stored byte, the ports, the frame number, the
+/// ULAplus registers and the four palettes.
+#[derive(Clone, Debug, PartialEq, Eq)]
+pub struct State {
+    /// $08: bit 2 allows Timex modes.
+    pub peripheral: u8,
+    /// $14: transparent colour.
+    pub transparent: u8,
+    /// $15: bit 7 LoRes.
+    pub layers: u8,
+    /// $1A: ULA clip X1, X2, Y1, Y2.
+    pub ula_clip: [u8; 4],
+    /// $1B: tilemap clip X1, X2, Y1, Y2.
+    pub tile_clip: [u8; 4],
+    /// The coordinate of $1A next to be written.
+    pub ula_turn: u8,
+    /// The coordinate of $1B next to be written.
+    pub tile_turn: u8,
+    /// $2F: tilemap X offset, upper part.
+    pub tile_x_high: u8,
+    /// $30: tilemap X offset, lower part.
+    pub tile_x_low: u8,
+    /// $31: tilemap Y offset.
+    pub tile_y: u8,
+    /// $32: ULA and LoRes X offset.
+    pub ula_x: u8,
+    /// $33: ULA and LoRes Y offset.
+    pub ula_y: u8,
+    /// $40: palette index.
+    pub palette_index: u8,
+    /// $42: ink mask.
+    pub ink_mask: u8,
+    /// $43: palette control.
+    pub palette_control: u8,
+    /// A first write of $44 waits for its second.
+    pub held: bool,
+    /// The first write of $44, 0 when none is held.
+    pub half: u8,
+    /// $4A: fallback.
+    pub fallback: u8,
+    /// $4C: tile transparency.
+    pub tile_transparent: u8,
+    /// $68: bit 7 ULA off, bit 0 stencil.
+    pub ula_control: u8,
+    /// $6B: tilemap control.
+    pub tile_control: u8,
+    /// $6C: default tilemap attribute.
+    pub tile_attribute: u8,
+    /// $6E: tilemap base address, in units of 256 bytes.
+    pub map_base: u8,
+    /// $6F: tile definitions base address, in units of 256 bytes.
+    pub definition_base: u8,
+    /// Port $FE: border.
+    pub border: u8,
+    /// Port $FF: Timex mode and colours.
+    pub timex: u8,
+    /// Port $BF3B: ULAplus register select.
+    pub select: u8,
+    /// Bit 0 of the ULAplus mode group.
+    pub plus_on: bool,
+    /// The frame number.
+    pub frame: u8,
+    /// The 64 ULAplus registers.
+    pub plus: [u8; 64],
+    /// The four palettes of 256 colours.
+    pub palettes: [[u16; 256]; 4],
+}
+
+impl State {
+    /// "Reset gives 0, palettes included, except where shown."
+    pub fn reset() -> State {
+        State {
+            peripheral: 0,
+            transparent: 0xE3,
+            layers: 0,
+            ula_clip: [0, 255, 0, 191],
+            tile_clip: [0, 159, 0, 255],
+            ula_turn: 0,
+            tile_turn: 0,
+            tile_x_high: 0,
+            tile_x_low: 0,
+            tile_y: 0,
+            ula_x: 0,
+            ula_y: 0,
+            palette_index: 0,
+            ink_mask: 15,
+            palette_control: 0,
+            held: false,
+            half: 0,
+            fallback: 0,
+            tile_transparent: 15,
+            ula_control: 0,
+            tile_control: 0,
+            tile_attribute: 0,
+            map_base: 0,
+            definition_base: 0,
+            border: 0,
+            timex: 0,
+            select: 0,
+            plus_on: false,
+            frame: 0,
+            plus: [0; 64],
+            palettes: [[0; 256]; 4],
+        }
+    }
+
+    /// "$08: bit 2 allows Timex modes."
+    pub fn timex_allowed(&self) -> bool {
+        bit(self.peripheral, 2)
+    }
+
+    /// "$15: bit 7 LoRes."
+    pub fn lores(&self) -> bool {
+        bit(self.layers, 7)
+    }
+
+    /// "$68: bit 7 ULA off".
+    pub fn ula_on(&self) -> bool {
+        !bit(self.ula_control, 7)
+    }
+
+    /// "$68: [...] bit 0 stencil".
+    pub fn stencil(&self) -> bool {
+        bit(self.ula_control, 0)
+    }
+
+    /// "$43: [...] bit 0 ULANext."
+    pub fn ulanext(&self) -> bool {
+        bit(self.palette_control, 0)
+    }
+
+    /// 002: "$6B bit 7 = 1 to enable the tilemap".
+    pub fn tilemap_on(&self) -> bool {
+        bit(self.tile_control, 7)
+    }
+
+    /// 002: "$6B bit 6 = 0 for 40x32, 1 for 80x32".
+    pub fn columns(&self) -> u32 {
+        if bit(self.tile_control, 6) {
+            80
+        } else {
+            40
+        }
+    }
+
+    /// 002: "$6B bit 5 = 1 to eliminate the attribute entry in the tilemap".
+    pub fn one_byte_entries(&self) -> bool {
+        bit(self.tile_control, 5)
+    }
+
+    /// "$2F (at most 3), $30: tilemap X."
+    pub fn tile_x(&self) -> u32 {
+        u32::from(self.tile_x_high) * 256 + u32::from(self.tile_x_low)
+    }
+
+    /// "$43: [...] bit 1 the ULA palette shown".
+    pub fn ula_palette_shown(&self) -> &[u16; 256] {
+        if bit(self.palette_control, 1) {
+            &self.palettes[ULA_SECOND]
+        } else {
+            &self.palettes[ULA_FIRST]
+        }
+    }
+
+    /// 002: "$6B bit 4 = palette select".
+    pub fn tile_palette_shown(&self) -> &[u16; 256] {
+        if bit(self.tile_control, 4) {
+            &self.palettes[TILEMAP_SECOND]
+        } else {
+            &self.palettes[TILEMAP_FIRST]
+        }
+    }
+}
+
+/// Bit `number` of a byte, 0 the lowest.
+pub fn bit(value: u8, number: u32) -> bool {
+    (value >> number) % 2 == 1
+}
+
+/// "$33 at most 191".
+pub fn ula_y_in_bounds(value: u8) -> bool {
+    value <= 191
+}
+
+/// "$42: ink mask, one of 1, 3, 7, 15, 31, 63, 127, 255".
+pub fn is_ink_mask(value: u8) -> bool {
+    [1, 3, 7, 15, 31, 63, 127, 255].contains(&value)
+}
+
+/// "$43: bits 6-4 choose the palette written (000, 100, 011, 111 only)".
+/// The place of that palette, or none.
+pub fn palette_written(control: u8) -> Option<usize> {
+    match control / 16 % 8 {
+        0b000 => Some(ULA_FIRST),
+        0b100 => Some(ULA_SECOND),
+        0b011 => Some(TILEMAP_FIRST),
+        0b111 => Some(TILEMAP_SECOND),
+        _ => None,
+    }
+}
+
+/// "$4C: tile transparency, at most 15".
+pub fn tile_transparent_in_bounds(value: u8) -> bool {
+    value <= 15
+}
+
+/// "$68: [...] bits 5-1 zero."
+pub fn ula_control_in_bounds(value: u8) -> bool {
+    value & 0b0011_1110 == 0
+}
+
+/// "$6B bits 3-0 zero."
+pub fn tile_control_in_bounds(value: u8) -> bool {
+    value & 0b0000_1111 == 0
+}
+
+/// "$2F (at most 3)".
+pub fn tile_x_high_in_bounds(value: u8) -> bool {
+    value <= 3
+}
+
+/// "$BF3B (write only, below 128".
+pub fn select_in_bounds(value: u8) -> bool {
+    value < 128
+}
+
+/// "A state is lawful when every field keeps the bounds above": the registers.
+fn registers_lawful(state: &State) -> bool {
+    ula_y_in_bounds(state.ula_y)
+        && is_ink_mask(state.ink_mask)
+        && palette_written(state.palette_control).is_some()
+        && tile_transparent_in_bounds(state.tile_transparent)
+        && ula_control_in_bounds(state.ula_control)
+        && tile_control_in_bounds(state.tile_control)
+        && tile_x_high_in_bounds(state.tile_x_high)
+        && state.map_base < 64
+        && state.definition_base < 64
+        && select_in_bounds(state.select)
+}
+
+/// "A state is lawful when every field keeps the bounds above, the border is
+/// at most 7, colours are at most 511, turns are at most 3, and the held byte
+/// is 0 when none is held."
+pub fn lawful(state: &State) -> bool {
+    registers_lawful(state)
+        && state.border <= 7
+        && state.palettes.iter().flatten().all(|&colour| colour <= 511)
+        && state.ula_turn <= 3
+        && state.tile_turn <= 3
+        && (state.held || state.half == 0)
+}
+
+/// "The next frame adds one, from 255 to 0." "Next frame: 4."
+pub fn next_frame(state: &State) -> (Reply, State) {
+    let mut after = state.clone();
+    if !lawful(state) {
+        return (NOT_LAWFUL, after);
+    }
+    after.frame = if state.frame == 255 {
+        0
+    } else {
+        state.frame + 1
+    };
+    (DONE, after)
+}

@@ -1,0 +1,203 @@
+//! "Tilemap dots".
+
+use crate::state::{bit, State};
+
+/// Where a tilemap lies in its bank and how it is laid out.
+#[derive(Clone, Copy, Debug, PartialEq, Eq)]
+pub struct Layout {
+    /// 40 or 80.
+    pub columns: u32,
+    /// One byte an entry, the attribute from $6C.
+    pub one_byte: bool,
+    /// $6C.
+    pub attribute: u8,
+    /// The byte address of the map, $6E × 256.
+    pub map_base: u32,
+    /// The byte address of the definitions, $6F × 256.
+    pub definition_base: u32,
+    /// The X offset.
+    pub x_offset: u32,
+    /// $31.
+    pub y_offset: u32,
+    /// Is the ULA on?
+    pub ula_on: bool,
+}
+
+impl Layout {
+    /// The layout that a state draws.
+    pub fn of(state: &State) -> Layout {
+        Layout {
+            columns: state.columns(),
+            one_byte: state.one_byte_entries(),
+            attribute: state.tile_attribute,
+            map_base: u32::from(state.map_base) * 256,
+            definition_base: u32::from(state.definition_base) * 256,
+            x_offset: state.tile_x(),
+            y_offset: u32::from(state.tile_y),
+            ula_on: state.ula_on(),
+        }
+    }
+
+    /// "Width W is 320 or 640."
+    pub fn width(&self) -> u32 {
+        self.columns * 8
+    }
+}
+
+/// A map entry: its tile number byte, and the upper byte or $6C.
+#[derive(Clone, Copy, Debug, PartialEq, Eq)]
+pub struct Entry {
+    pub number: u8,
+    pub attribute: u8,
+}
+
+impl Entry {
+    /// 002: "bits 15-12 : palette offset".
+    pub fn palette_offset(&self) -> u8 {
+        self.attribute / 16
+    }
+
+    /// 002: "bit 11 : x mirror".
+    pub fn x_mirror(&self) -> bool {
+        bit(self.attribute, 3)
+    }
+
+    /// 002: "bit 10 : y mirror".
+    pub fn y_mirror(&self) -> bool {
+        bit(self.attribute, 2)
+    }
+
+    /// 002: "bit 9 : rotate".
+    pub fn rotate(&self) -> bool {
+        bit(self.attribute, 1)
+    }
+
+    /// 002: "bit 8 : ULA over tilemap (if the ula is disabled, bit 8 of tile
+    /// number)".
+    pub fn bit_8(&self) -> bool {
+        bit(self.attribute, 0)
+    }
+
+    /// "The tile number has bit 8 only when the ULA is off."
+    pub fn tile_number(&self, ula_on: bool) -> u32 {
+        if self.bit_8() && !ula_on {
+            256 + u32::from(self.number)
+        } else {
+            u32::from(self.number)
+        }
+    }
+}
+
+/// "Addresses are taken mod 16,384."
+fn fetch(bank: &[u8], address: u32) -> u8 {
+    bank[(address % 16_384) as usize]
+}
+
+/// "tx = (x + X offset) mod W".
+fn map_x(layout: &Layout, x: u32) -> u32 {
+    (x + layout.x_offset) % layout.width()
+}
+
+/// "ty = (y + $31) mod 256".
+fn map_y(layout: &Layout, y: u32) -> u32 {
+    (y + layout.y_offset) % 256
+}
+
+/// The entry for x (dots in 80 columns, pixels in 40) on line y: "The entry is
+/// cell (ty div 8) × columns + tx div 8, two bytes low first or one byte with
+/// $6C (002)."
+pub fn tile_entry(bank: &[u8], layout: &Layout, x: u32, y: u32) -> Entry {
+    let cell = (map_y(layout, y) / 8) * layout.columns + map_x(layout, x) / 8;
+    if layout.one_byte {
+        Entry {
+            number: fetch(bank, layout.map_base + cell),
+            attribute: layout.attribute,
+        }
+    } else {
+        Entry {
+            number: fetch(bank, layout.map_base + cell * 2),
+            attribute: fetch(bank, layout.map_base + cell * 2 + 1),
+        }
+    }
+}
+
+/// "Turns: a is x within the cell, or 7 − x where exactly one of x mirror and
+/// rotate is set; b is y, or 7 − y under y mirror. The definition's (column,
+/// row) is (a, b), or (b, a) under rotate."
+pub fn turned(x_mirror: bool, y_mirror: bool, rotate: bool, x: u32, y: u32) -> (u32, u32) {
+    let a = if x_mirror != rotate { 7 - x } else { x };
+    let b = if y_mirror { 7 - y } else { y };
+    if rotate {
+        (b, a)
+    } else {
+        (a, b)
+    }
+}
+
+/// "Definition: 32 bytes, 4 a row, high half left."
+pub fn definition_pixel(bank: &[u8], start: u32, column: u32, row: u32) -> u8 {
+    let byte = fetch(bank, start + row * 4 + column / 2);
+    if column % 2 == 1 {
+        byte % 16
+    } else {
+        byte / 16
+    }
+}
+
+/// The pixel, 0 to 15, that an entry shows at x on line y.
+fn tile_pixel(bank: &[u8], layout: &Layout, entry: Entry, x: u32, y: u32) -> u8 {
+    let (column, row) = turned(
+        entry.x_mirror(),
+        entry.y_mirror(),
+        entry.rotate(),
+        map_x(layout, x) % 8,
+        map_y(layout, y) % 8,
+    );
+    let start = layout.definition_base + entry.tile_number(layout.ula_on) * 32;
+    definition_pixel(bank, start, column, row)
+}
+
+/// "Index: palette offset × 16 + pixel", before transparency and clip. x
+/// counts dots in 80 columns and pixels in 40; the bank is 16,384 bytes.
+pub fn tile_index(bank: &[u8], layout: &Layout, x: u32, y: u32) -> u8 {
+    let entry = tile_entry(bank, layout, x, y);
+    entry.palette_offset() * 16 + tile_pixel(bank, layout, entry, x, y)
+}
+
+/// "Tilemap clip X counts pairs of pixels, Y counts lines; both ends are
+/// inside."
+fn in_tile_clip(pixel: u32, line: u32, state: &State) -> bool {
+    let [x1, x2, y1, y2] = state.tile_clip.map(u32::from);
+    let pair = pixel / 2;
+    x1 <= pair && pair <= x2 && y1 <= line && line <= y2
+}
+
+/// A tilemap dot: its colour, none where it is transparent, and the entry's
+/// bit 8.
+#[derive(Clone, Copy, Debug, PartialEq, Eq)]
+pub struct TileDot {
+    pub colour: Option<u16>,
+    pub bit_8: bool,
+}
+
+/// One tilemap dot. "Transparent: tilemap off, pixel equals $4C, or outside the
+/// clip."
+pub fn tile_dot(line: u32, dot: u32, bank: &[u8], state: &State) -> TileDot {
+    if !state.tilemap_on() {
+        return TileDot {
+            colour: None,
+            bit_8: false,
+        };
+    }
+    let layout = Layout::of(state);
+    // "x counts dots in 80 columns and pixels in 40."
+    let x = if layout.columns == 80 { dot } else { dot / 2 };
+    let entry = tile_entry(bank, &layout, x, line);
+    let pixel = tile_pixel(bank, &layout, entry, x, line);
+    let index = tile_index(bank, &layout, x, line);
+    let shown = pixel != state.tile_transparent && in_tile_clip(dot / 2, line, state);
+    TileDot {
+        colour: shown.then(|| state.tile_palette_shown()[usize::from(index)]),
+        bit_8: entry.bit_8(),
+    }
+}

@@ -1,0 +1,369 @@
+//! "ULA dots".
+
+use crate::colour::{plus_colour, widen};
+use crate::state::{bit, State};
+
+/// What the ULA draws.
+#[derive(Clone, Copy, Debug, PartialEq, Eq, Hash, PartialOrd, Ord)]
+pub enum Mode {
+    /// Timex mode 0: bitmap and attributes of the first page.
+    Zero,
+    /// Timex mode 1: bitmap and attributes of the second page.
+    One,
+    /// Timex mode 2: one attribute for each byte of the bitmap.
+    Two,
+    /// Timex mode 6: 512 dots in two colours.
+    Six,
+    /// LoRes: one palette index for each two by two pixels.
+    Lores,
+    /// The ULA is off.
+    Off,
+    /// "Timex values 3, 4, 5 and 7 are no mode."
+    NoMode,
+}
+
+/// "LoRes is judged first. Otherwise the mode is $FF bits 2-0, or 0 without
+/// $08 bit 2. Timex values 3, 4, 5 and 7 are no mode." A ULA that is off draws
+/// in no mode at all.
+pub fn ula_mode(state: &State) -> Mode {
+    if !state.ula_on() {
+        return Mode::Off;
+    }
+    if state.lores() {
+        return Mode::Lores;
+    }
+    if !state.timex_allowed() {
+        return Mode::Zero;
+    }
+    match state.timex % 8 {
+        0 => Mode::Zero,
+        1 => Mode::One,
+        2 => Mode::Two,
+        6 => Mode::Six,
+        _ => Mode::NoMode,
+    }
+}
+
+/// How attributes and border become colours.
+#[derive(Clone, Copy, Debug, PartialEq, Eq, Hash, PartialOrd, Ord)]
+pub enum Colouring {
+    Plain,
+    UlaNext,
+    UlaPlus,
+}
+
+/// ULANext by $43 bit 0, ULAplus by its mode group; both at once is reply 7.
+pub fn colouring(state: &State) -> Colouring {
+    if state.ulanext() {
+        Colouring::UlaNext
+    } else if state.plus_on {
+        Colouring::UlaPlus
+    } else {
+        Colouring::Plain
+    }
+}
+
+/// "Byte address: (y' div 64) × 2048 + (y' mod 8) × 256 + (y' div 8 mod 8) × 32
+/// + x' div 8 (004)."
+pub fn byte_address(row: u32, column: u32) -> u32 {
+    (row / 64) * 2048 + (row % 8) * 256 + (row / 8 % 8) * 32 + column
+}
+
+/// "Mode 0: attribute at $1800 + (y' div 8) × 32 + x' div 8."
+pub fn attribute_address(row: u32, column: u32) -> u32 {
+    0x1800 + (row / 8) * 32 + column
+}
+
+/// "Mode 2: [...] attribute at byte address + $2000."
+pub fn high_colour_address(row: u32, column: u32) -> u32 {
+    byte_address(row, column) + 0x2000
+}
+
+/// "Column c of 64 reads the byte address of column c div 2, plus $2000 for
+/// odd c."
+pub fn high_resolution_address(row: u32, column: u32) -> u32 {
+    byte_address(row, column / 2) + (column % 2) * 0x2000
+}
+
+/// "Index at (y' div 2) × 128 + x' div 2, plus $800 from row 48 on." Row is
+/// y' div 2, column x' div 2.
+pub fn lores_address(row: u32, column: u32) -> u32 {
+    let address = row * 128 + column;
+    if row >= 48 {
+        address + 0x800
+    } else {
+        address
+    }
+}
+
+/// "x' = (x + $32 rounded down to a multiple of 8) mod 256".
+pub fn scrolled_x(x: u32, ula_x: u8) -> u32 {
+    (x + u32::from(ula_x / 8 * 8)) % 256
+}
+
+/// "y' = (y + $33) mod 192."
+pub fn scrolled_y(y: u32, ula_y: u8) -> u32 {
+    (y + u32::from(ula_y)) % 192
+}
+
+/// "512 dots, moved by twice the rounded offset."
+pub fn scrolled_dot(dot: u32, ula_x: u8) -> u32 {
+    (dot + 2 * u32::from(ula_x / 8 * 8)) % 512
+}
+
+/// "LoRes: x' uses the whole $32."
+pub fn scrolled_lores_x(x: u32, ula_x: u8) -> u32 {
+    (x + u32::from(ula_x)) % 256
+}
+
+/// "Attribute 01pppiii, iii from $FF bits 5-3, ppp its complement (003)."
+pub fn high_resolution_attribute(timex: u8) -> u8 {
+    let ink = timex / 8 % 8;
+    let paper = 7 - ink;
+    64 + paper * 8 + ink
+}
+
+/// Attribute bits 2-0.
+fn ink_part(attribute: u8) -> u8 {
+    attribute % 8
+}
+
+/// Attribute bits 5-3.
+fn paper_part(attribute: u8) -> u8 {
+    attribute / 8 % 8
+}
+
+/// Attribute bit 6.
+fn bright_part(attribute: u8) -> u8 {
+    attribute / 64 % 2
+}
+
+/// "plain, ink + 8 × bright".
+pub fn plain_ink(attribute: u8) -> u8 {
+    ink_part(attribute) + 8 * bright_part(attribute)
+}
+
+/// "paper 16 + paper + 8 × bright".
+pub fn plain_paper(attribute: u8) -> u8 {
+    16 + paper_part(attribute) + 8 * bright_part(attribute)
+}
+
+/// "where attribute bit 7 is set and frame div 16 is odd, ink and paper change
+/// places."
+pub fn flashes(attribute: u8, frame: u8) -> bool {
+    bit(attribute, 7) && frame / 16 % 2 == 1
+}
+
+/// "ULANext: attribute AND mask".
+pub fn next_ink(attribute: u8, mask: u8) -> u8 {
+    attribute & mask
+}
+
+/// The attribute shifted right past the mask, or none under mask 255.
+fn next_paper_part(attribute: u8, mask: u8) -> Option<u8> {
+    if mask == 255 {
+        None
+    } else {
+        Some(attribute >> mask.count_ones())
+    }
+}
+
+/// "128 + the attribute shifted right past the mask"; none is the fallback:
+/// "mask 255 gives paper and border the fallback colour, in mode 6 too."
+pub fn next_paper(attribute: u8, mask: u8) -> Option<u8> {
+    Some(128 + next_paper_part(attribute, mask)?)
+}
+
+/// "border 128 + border", or the fallback under mask 255.
+pub fn next_border(border: u8, mask: u8) -> Option<u8> {
+    if mask == 255 {
+        None
+    } else {
+        Some(128 + border)
+    }
+}
+
+/// "In mode 6 the border is [...] (under ULANext, 128 + paper index mod 8)",
+/// or the fallback under mask 255.
+pub fn next_mode_6_border(attribute: u8, mask: u8) -> Option<u8> {
+    Some(128 + next_paper_part(attribute, mask)? % 8)
+}
+
+/// "ULAplus: (attribute div 64) × 16 + ink".
+pub fn plus_ink(attribute: u8) -> u8 {
+    (attribute / 64) * 16 + ink_part(attribute)
+}
+
+/// "the same + 8 + paper".
+pub fn plus_paper(attribute: u8) -> u8 {
+    (attribute / 64) * 16 + 8 + paper_part(attribute)
+}
+
+/// A colour of the ULA palette shown.
+fn palette_colour(state: &State, index: u8) -> u16 {
+    state.ula_palette_shown()[usize::from(index)]
+}
+
+/// A colour of the ULA palette shown, or the fallback widened.
+fn palette_colour_or_fallback(state: &State, index: Option<u8>) -> u16 {
+    match index {
+        Some(index) => palette_colour(state, index),
+        None => widen(state.fallback),
+    }
+}
+
+/// The colour of a ULAplus register.
+fn plus_register_colour(state: &State, register: u8) -> u16 {
+    plus_colour(state.plus[usize::from(register)])
+}
+
+/// The colour that an attribute's ink has.
+fn ink_colour(state: &State, attribute: u8) -> u16 {
+    match colouring(state) {
+        Colouring::Plain => palette_colour(state, plain_ink(attribute)),
+        Colouring::UlaNext => palette_colour(state, next_ink(attribute, state.ink_mask)),
+        Colouring::UlaPlus => plus_register_colour(state, plus_ink(attribute)),
+    }
+}
+
+/// The colour that an attribute's paper has.
+fn paper_colour(state: &State, attribute: u8) -> u16 {
+    match colouring(state) {
+        Colouring::Plain => palette_colour(state, plain_paper(attribute)),
+        Colouring::UlaNext => {
+            palette_colour_or_fallback(state, next_paper(attribute, state.ink_mask))
+        }
+        Colouring::UlaPlus => plus_register_colour(state, plus_paper(attribute)),
+    }
+}
+
+/// The colour of one bit of a bitmap. "1 is ink." Only the plain rule flashes.
+fn bit_colour(state: &State, attribute: u8, set: bool) -> u16 {
+    let swapped = colouring(state) == Colouring::Plain && flashes(attribute, state.frame);
+    if set != swapped {
+        ink_colour(state, attribute)
+    } else {
+        paper_colour(state, attribute)
+    }
+}
+
+/// The border colour: by port $FE, or in mode 6 the paper.
+pub fn border_colour(state: &State) -> u16 {
+    if ula_mode(state) == Mode::Six {
+        return mode_6_border_colour(state);
+    }
+    match colouring(state) {
+        // "border 16 + border"
+        Colouring::Plain => palette_colour(state, 16 + state.border),
+        // "border 128 + border"
+        Colouring::UlaNext => {
+            palette_colour_or_fallback(state, next_border(state.border, state.ink_mask))
+        }
+        // "border 8 + border"
+        Colouring::UlaPlus => plus_register_colour(state, 8 + state.border),
+    }
+}
+
+/// "In mode 6 the border is the paper (under ULANext, 128 + paper index mod
+/// 8)."
+fn mode_6_border_colour(state: &State) -> u16 {
+    let attribute = high_resolution_attribute(state.timex);
+    match colouring(state) {
+        Colouring::UlaNext => {
+            palette_colour_or_fallback(state, next_mode_6_border(attribute, state.ink_mask))
+        }
+        Colouring::Plain | Colouring::UlaPlus => paper_colour(state, attribute),
+    }
+}
+
+/// "The leftmost pixel is bit 7".
+fn bitmap_bit(byte: u8, place: u32) -> bool {
+    bit(byte, 7 - place)
+}
+
+/// A byte of the ULA bank.
+fn fetch(bank: &[u8], address: u32) -> u8 {
+    bank[address as usize]
+}
+
+/// The colour of display pixel (x, y) in modes 0, 1 and 2.
+fn attribute_pixel(mode: Mode, x: u32, y: u32, bank: &[u8], state: &State) -> u16 {
+    let across = scrolled_x(x, state.ula_x);
+    let row = scrolled_y(y, state.ula_y);
+    let column = across / 8;
+    let (bitmap, attribute) = match mode {
+        // "Mode 1: both $2000 further."
+        Mode::One => (
+            byte_address(row, column) + 0x2000,
+            attribute_address(row, column) + 0x2000,
+        ),
+        // "Mode 2: bitmap as mode 0, attribute at byte address + $2000."
+        Mode::Two => (byte_address(row, column), high_colour_address(row, column)),
+        _ => (byte_address(row, column), attribute_address(row, column)),
+    };
+    let set = bitmap_bit(fetch(bank, bitmap), across % 8);
+    bit_colour(state, fetch(bank, attribute), set)
+}
+
+/// The colour of display dot (dot, y), dot 0 to 511, in mode 6.
+fn high_resolution_dot(dot: u32, y: u32, bank: &[u8], state: &State) -> u16 {
+    let across = scrolled_dot(dot, state.ula_x);
+    let row = scrolled_y(y, state.ula_y);
+    let byte = fetch(bank, high_resolution_address(row, across / 8));
+    let attribute = high_resolution_attribute(state.timex);
+    bit_colour(state, attribute, bitmap_bit(byte, across % 8))
+}
+
+/// The colour of display pixel (x, y) in LoRes: "It is a ULA palette index,
+/// under ULAplus too".
+fn lores_pixel(x: u32, y: u32, bank: &[u8], state: &State) -> u16 {
+    let across = scrolled_lores_x(x, state.ula_x);
+    let row = scrolled_y(y, state.ula_y);
+    let index = fetch(bank, lores_address(row / 2, across / 2));
+    palette_colour(state, index)
+}
+
+/// "The ULA display is pixels 32..287 of lines 32..223; the rest is border".
+pub fn in_display(pixel: u32, line: u32) -> bool {
+    (32..=287).contains(&pixel) && (32..=223).contains(&line)
+}
+
+/// "outside its clip (pixels and lines of the display, both ends inside)".
+fn in_ula_clip(x: u32, y: u32, state: &State) -> bool {
+    let [x1, x2, y1, y2] = state.ula_clip.map(u32::from);
+    x1 <= x && x <= x2 && y1 <= y && y <= y2
+}
+
+/// The colour inside the display, transparency aside.
+fn display_colour(line: u32, dot: u32, bank: &[u8], state: &State) -> u16 {
+    let x = dot / 2 - 32;
+    let y = line - 32;
+    match ula_mode(state) {
+        Mode::Lores => lores_pixel(x, y, bank, state),
+        Mode::Six => high_resolution_dot(dot - 64, y, bank, state),
+        mode => attribute_pixel(mode, x, y, bank, state),
+    }
+}
+
+/// One ULA dot, none where it is transparent: "when colour div 2 equals $14,
+/// when the ULA is off, or inside the display outside its clip [...]. The
+/// border is not clipped."
+pub fn ula_dot(line: u32, dot: u32, bank: &[u8], state: &State) -> Option<u16> {
+    if !state.ula_on() {
+        return None;
+    }
+    let pixel = dot / 2;
+    let colour = if in_display(pixel, line) {
+        if !in_ula_clip(pixel - 32, line - 32, state) {
+            return None;
+        }
+        display_colour(line, dot, bank, state)
+    } else {
+        border_colour(state)
+    };
+    if colour / 2 == u16::from(state.transparent) {
+        None
+    } else {
+        Some(colour)
+    }
+}

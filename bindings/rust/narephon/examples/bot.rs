@@ -1,0 +1,46 @@
+//! A bot's states, kept by member number. Two members share a nickname; one has sent half a nine-bit colour, the other
+//! sends a byte of her own, and neither reaches the other.
+use narephon::Reply;
+use std::collections::HashMap;
+
+struct Bot {
+    records: HashMap<u16, [u8; narephon::RECORD]>,
+}
+
+impl Bot {
+    fn write(&mut self, member: u16, register: u8, value: u8) -> Result<(), Reply> {
+        let record = self.records.entry(member).or_insert_with(narephon::reset);
+        narephon::write_register(record, register, value)
+    }
+
+    fn read(&self, member: u16, register: u8) -> Result<u8, Reply> {
+        let record = self.records.get(&member).ok_or(Reply::NotRecord)?;
+        narephon::read_register(record, register)
+    }
+}
+
+fn main() -> Result<(), Reply> {
+    let mut bot = Bot {
+        records: HashMap::new(),
+    };
+    // Members 7 and 8 are both called Rufus.
+    for member in [7, 8] {
+        bot.write(member, 0x40, 12)?;
+    }
+    bot.write(7, 0x44, 0xE3)?;
+    bot.write(8, 0x44, 0x1C)?;
+    bot.write(8, 0x44, 1)?;
+    println!("member 8 finished her colour: index {}", bot.read(8, 0x40)?);
+    println!(
+        "member 7 still holds his half: index {}",
+        bot.read(7, 0x40)?
+    );
+    bot.write(7, 0x44, 0)?;
+    for member in [7, 8] {
+        bot.write(member, 0x40, 12)?;
+        let high = u16::from(bot.read(member, 0x41)?);
+        let low = u16::from(bot.read(member, 0x44)?);
+        println!("member {member}: colour {}", high * 2 + low);
+    }
+    Ok(())
+}

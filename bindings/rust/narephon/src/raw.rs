@@ -1,0 +1,45 @@
+//! The exported functions, as `bindings/c/narephon.h` declares them.
+
+#[link(name = "narephon", kind = "static")]
+extern "C" {
+    pub fn narephon_reset(record: *mut u8, record_len: usize) -> u8;
+    pub fn narephon_next_frame(record: *mut u8, record_len: usize) -> u8;
+    pub fn narephon_write_register(record: *mut u8, record_len: usize, number: u8, value: u8)
+        -> u8;
+    pub fn narephon_write_port(record: *mut u8, record_len: usize, port: u16, value: u8) -> u8;
+    pub fn narephon_read_register(
+        record: *const u8,
+        record_len: usize,
+        number: u8,
+        value: *mut u8,
+    ) -> u8;
+    pub fn narephon_read_port(
+        record: *const u8,
+        record_len: usize,
+        port: u16,
+        value: *mut u8,
+    ) -> u8;
+    pub fn narephon_draw(
+        record: *const u8,
+        record_len: usize,
+        ula: *const u8,
+        ula_len: usize,
+        tile: *const u8,
+        tile_len: usize,
+        line: u32,
+        dots: *mut u16,
+        dots_len: usize,
+    ) -> u8;
+    pub fn narephon_screen_value(colour: u32, value: *mut u32) -> u8;
+    pub fn narephon_pack(
+        picture: *const u8,
+        picture_len: usize,
+        allowed: u32,
+        offset: u32,
+        map: *mut u8,
+        map_len: usize,
+        definitions: *mut u8,
+        definitions_len: usize,
+        count: *mut u32,
+    ) -> u8;
+}

@@ -1,0 +1,92 @@
+//! Each wrapper once, with a refusal of each that can be refused.
+
+use narephon::Reply;
+use std::collections::HashMap;
+
+#[test]
+fn registers_and_ports() {
+    let mut record = narephon::reset();
+    assert_eq!(narephon::write_register(&mut record, 0x14, 7), Ok(()));
+    assert_eq!(narephon::read_register(&record, 0x14), Ok(7));
+    assert_eq!(
+        narephon::read_register(&record, 0x00),
+        Err(Reply::NoRegister)
+    );
+    assert_eq!(narephon::write_register(&mut record, 0x08, 4), Ok(()));
+    assert_eq!(narephon::write_port(&mut record, 0xFF, 6), Ok(()));
+    assert_eq!(narephon::read_port(&record, 0xFF), Ok(6));
+    assert_eq!(narephon::read_port(&record, 0xFE), Err(Reply::NoRegister));
+    assert_eq!(narephon::next_frame(&mut record), Ok(()));
+    let kept = record;
+    let mask_5 = narephon::write_register(&mut record, 0x42, 5);
+    assert_eq!(mask_5, Err(Reply::OutOfBounds));
+    let far = narephon::write_port(&mut record, 0xBF3B, 128);
+    assert_eq!(far, Err(Reply::OutOfBounds));
+    assert_eq!(
+        narephon::next_frame(&mut record[1..]),
+        Err(Reply::NotRecord)
+    );
+    assert!(record == kept);
+}
+
+#[test]
+fn lines_and_screen_values() {
+    let mut record = narephon::reset();
+    let bank = [0; narephon::BANK];
+    let mut dots = [1; narephon::DOTS];
+    assert_eq!(narephon::write_register(&mut record, 0x4A, 0xE3), Ok(()));
+    assert_eq!(narephon::write_register(&mut record, 0x68, 0x80), Ok(()));
+    assert_eq!(
+        narephon::draw(&record, &bank, &bank, 255, &mut dots),
+        Ok(())
+    );
+    assert!(dots == [455; narephon::DOTS]);
+    let below = narephon::draw(&record, &bank, &bank, 256, &mut dots);
+    assert_eq!(below, Err(Reply::NoLine));
+    assert!(dots == [455; narephon::DOTS]);
+    assert_eq!(narephon::screen_value(455), Ok(0xFF00FF));
+    assert_eq!(narephon::screen_value(512), Err(Reply::OutOfBounds));
+}
+
+#[test]
+fn packings() {
+    let mut picture = [0; narephon::PICTURE];
+    let mut map = [1; narephon::MAP];
+    let mut definitions = [1; narephon::DEFINITIONS];
+    // A dot in the corner of the first cell makes a second tile.
+    picture[0] = 0x10;
+    let none = narephon::pack(&picture, 1, 0, &mut map, &mut definitions);
+    assert_eq!(none, Err(Reply::TooManyTiles));
+    assert!(map == [1; narephon::MAP] && definitions == [1; narephon::DEFINITIONS]);
+    let both = narephon::pack(&picture, 256, 0, &mut map, &mut definitions);
+    assert_eq!(both, Ok(2));
+    assert_eq!(
+        (map[0], map[2], definitions[0], definitions[32]),
+        (0, 1, 0x10, 0)
+    );
+}
+
+/// A member sends the next half of a nine-bit colour, or any other byte.
+fn write(bot: &mut HashMap<u16, [u8; narephon::RECORD]>, member: u16, number: u8, value: u8) {
+    let record = bot.entry(member).or_insert_with(narephon::reset);
+    assert_eq!(narephon::write_register(record, number, value), Ok(()));
+}
+
+/// Two members share a nickname and are kept apart by number: the half of one never meets a byte of the other.
+#[test]
+fn two_members() {
+    let mut bot = HashMap::new();
+    write(&mut bot, 7, 0x40, 12);
+    write(&mut bot, 8, 0x40, 12);
+    write(&mut bot, 7, 0x44, 0xE3);
+    write(&mut bot, 8, 0x44, 0x1C);
+    write(&mut bot, 8, 0x44, 1);
+    assert_eq!(narephon::read_register(&bot[&8], 0x40), Ok(13));
+    assert_eq!(narephon::read_register(&bot[&7], 0x40), Ok(12));
+    write(&mut bot, 7, 0x44, 0);
+    for (member, high, low) in [(7, 0xE3, 0), (8, 0x1C, 1)] {
+        write(&mut bot, member, 0x40, 12);
+        assert_eq!(narephon::read_register(&bot[&member], 0x41), Ok(high));
+        assert_eq!(narephon::read_register(&bot[&member], 0x44), Ok(low));
+    }
+}
