@@ -8,8 +8,9 @@ use lib.Dec.{leb}
 use borrow.Author.Tests.{leb-true}
 use Rattle.reply.specs.declared.Reply.{Reply}
 use Rattle.reply.specs.declared.Reply.the-variants.{Done, TooManyTiles}
+use Rattle.reply.specs.Reply.{isDone}
 use Rattle.packer.specs.declared.Packing.{Packing}
-use Rattle.packer.specs.Answer.{isDone, judged, answered, packAnswer}
+use Rattle.packer.specs.Answer.{judged, answered, packAnswer}
 use Rattle.packer.specs.Greedy.{tileCount}
 
 small : (b d : Bool) (n allowed : ℕ) (r : Reply) → (d ≡ true → n ≤ allowed)

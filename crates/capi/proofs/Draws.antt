@@ -7,12 +7,12 @@ use mathlib.Core.Bool.{true, false}
 use lib.ListN.{length}
 use borrow.Author.Tests.{eq-eqb, ne-eqb}
 use Rattle.reply.specs.declared.Reply.{Reply}
-use Rattle.reply.specs.Reply.{replyNumber}
+use Rattle.reply.specs.Reply.{replyNumber, isDone}
 use Rattle.state.specs.declared.State.{State}
 use Rattle.state.specs.declared.Answer.{Answer}
 use Rattle.layout.specs.Record.{readRecord}
 use Rattle.line.specs.Lines.{drawnLine}
-use Rattle.line.specs.Replies.{isDone, firstOf, drawReply, drawnIf}
+use Rattle.line.specs.Replies.{firstOf, drawReply, drawnIf}
 use Rattle.capi.specs.Drawn.{earlyReply, numbered, lentDrawReply, lentDrawn}
 
 first-done : (a d : Reply) → isDone a ≡ true → firstOf a d ≡ d

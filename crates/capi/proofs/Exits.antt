@@ -6,12 +6,11 @@ use mathlib.Core.List.{List}
 use mathlib.Core.Bool.{true, false}
 use borrow.Author.Tests.{eq-eqb, ne-eqb}
 use Rattle.reply.specs.declared.Reply.{Reply}
-use Rattle.reply.specs.Reply.{replyNumber}
+use Rattle.reply.specs.Reply.{replyNumber, isDone}
 use Rattle.state.specs.declared.State.{State}
 use Rattle.state.specs.declared.Answer.{Answer}
 use Rattle.answers.specs.declared.Reading.{Reading}
 use Rattle.answers.specs.Answers.{unread}
-use Rattle.line.specs.Replies.{isDone}
 use Rattle.layout.specs.Record.{readRecord, writtenIn}
 use Rattle.capi.specs.Lent.{lentAnswer, lentAfter, lentReading}
 

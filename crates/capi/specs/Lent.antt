@@ -7,7 +7,7 @@ use Rattle.state.specs.declared.State.{State}
 use Rattle.state.specs.declared.Answer.{Answer}
 use Rattle.answers.specs.declared.Reading.{Reading}
 use Rattle.answers.specs.Answers.{unread}
-use Rattle.line.specs.Replies.{isDone}
+use Rattle.reply.specs.Reply.{isDone}
 use Rattle.layout.specs.Record.{readRecord, writtenIn}
 
 -- what a call that changes a state answers on the state in a lent record, or the refusal of the record

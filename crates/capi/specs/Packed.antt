@@ -4,9 +4,9 @@ use mathlib.Core.Path.{_≡_}
 use mathlib.Core.List.{List}
 use mathlib.Core.Bool.{cond}
 use lib.ListN.{length}
-use Rattle.reply.specs.Reply.{replyNumber}
+use Rattle.reply.specs.Reply.{replyNumber, isDone}
 use Rattle.packer.specs.declared.Packing.{Packing}
-use Rattle.packer.specs.Answer.{isDone, packAnswer}
+use Rattle.packer.specs.Answer.{packAnswer}
 use Rattle.packer.specs.Greedy.{packedMap, packedDefs}
 
 -- what the packer answers for lent buffers of these lengths

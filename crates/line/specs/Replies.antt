@@ -3,7 +3,7 @@ use Prim.Native.Nat.{ℕ, _+_, _*_}
 use mathlib.Core.List.{List, [], _∷_}
 use mathlib.Core.Bool.{Bool, cond, _&&_}
 use lib.Dec.{eqb, leb}
-use Rattle.reply.specs.Reply.{replyNumber}
+use Rattle.reply.specs.Reply.{isDone}
 use Rattle.reply.specs.declared.Reply.{Reply}
 use Rattle.reply.specs.declared.Reply.the-variants.{Done, NoLine, BankLength, BufferLength, NotLawful, NoMode, LoresWithTiles, NextWithPlus, FarOffset}
 use Rattle.state.specs.Bits.{loresOn, nextOn, ulaOn, tilemapOn, columns80}
@@ -53,9 +53,6 @@ stateReply u t p ports =
     (cond (nextWithPlus p ports) NextWithPlus
     (cond (noMode u ports) NoMode
     (cond (farOffset t) FarOffset Done)))
-
-abbrev pub isDone : Reply → Bool
-isDone r = eqb (replyNumber r) 0
 
 -- the first of two that refuses
 unfoldable pub firstOf : Reply → Reply → Reply

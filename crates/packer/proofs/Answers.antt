@@ -12,12 +12,12 @@ use Rattle.lists.proofs.Search.{not-both}
 use Rattle.lists.proofs.Tab.{length-tab}
 use Rattle.reply.specs.declared.Reply.{Reply}
 use Rattle.reply.specs.declared.Reply.the-variants.{Done, BufferLength, TooManyTiles, PackingBounds}
-use Rattle.reply.specs.Reply.{replyNumber}
+use Rattle.reply.specs.Reply.{isDone, replyNumber}
 use Rattle.classes.specs.Turned.{classes}
 use Rattle.packer.specs.declared.Packing.{Packing}
 use Rattle.packer.specs.Sheet.{named, Bytes, Draws}
 use Rattle.packer.specs.Greedy.{tileCount, mapByte, defByte, packedMap, packedDefs}
-use Rattle.packer.specs.Answer.{judged, isDone, answered, packAnswer, NoneDraws, Packs}
+use Rattle.packer.specs.Answer.{judged, answered, packAnswer, NoneDraws, Packs}
 use Rattle.packer.specs.Bounds.{Counted, Written}
 use Rattle.packer.proofs.Banked.{setting}
 use Rattle.packer.proofs.Lower.{direct, lower}

@@ -1,13 +1,13 @@
 -- Packing: the answer, what the lent map and definitions hold afterwards, and what demand 3 asks of both.
 use mathlib.Core.Path.{_≡_}
 use mathlib.Core.List.{List}
-use mathlib.Core.Bool.{Bool, cond, _&&_}
+use mathlib.Core.Bool.{cond, _&&_}
 use Prim.Native.Nat.{ℕ, _≤_}
 use lib.ListN.{length}
 use lib.Dec.{eqb, leb}
 use Rattle.reply.specs.declared.Reply.{Reply}
 use Rattle.reply.specs.declared.Reply.the-variants.{Done, BufferLength, TooManyTiles, PackingBounds}
-use Rattle.reply.specs.Reply.{replyNumber}
+use Rattle.reply.specs.Reply.{isDone}
 use Rattle.packer.specs.declared.Packing.{Packing}
 use Rattle.packer.specs.Sheet.{named, Bytes, SetIn, DrawsAlways, Draws}
 use Rattle.packer.specs.Greedy.{tileCount, packedMap, packedDefs}
@@ -16,10 +16,6 @@ use Rattle.packer.specs.Greedy.{tileCount, packedMap, packedDefs}
 unfoldable pub judged : ℕ → ℕ → ℕ → ℕ → ℕ → Reply
 judged pic map defs allowed offset =
     cond (eqb pic 40960 && eqb map 2560 && eqb defs 8192) (cond (leb allowed 256 && leb offset 15) Done PackingBounds) BufferLength
-
--- a packing is done
-abbrev pub isDone : Reply → Bool
-isDone r = eqb (replyNumber r) 0
 
 -- 11 comes after them, where there are more than allowed; a refused packing counts 0
 unfoldable pub answered : ℕ → ℕ → Packing

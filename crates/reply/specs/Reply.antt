@@ -1,5 +1,7 @@
 -- Reply numbers.
 use Prim.Native.Nat.{ℕ}
+use mathlib.Core.Bool.{Bool}
+use lib.Dec.{eqb}
 use Rattle.reply.specs.declared.Reply.{Reply}
 use Rattle.reply.specs.declared.Reply.the-variants.{Done, NoLine, BankLength, BufferLength, NotLawful, NoMode, LoresWithTiles, NextWithPlus, FarOffset, NoRegister, OutOfBounds, TooManyTiles, PackingBounds, NotRecord}
 
@@ -33,3 +35,7 @@ replyNumber TooManyTiles = 11
 replyNumber PackingBounds = 12
 -- bytes are not a record of a lawful state
 replyNumber NotRecord = 13
+
+-- a reply that refuses nothing
+abbrev pub isDone : Reply → Bool
+isDone r = eqb (replyNumber r) 0
