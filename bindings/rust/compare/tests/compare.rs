@@ -102,43 +102,41 @@ fn what_is_not_reached_is_missed() {
     assert_eq!(Seen::default().missing().len(), 33 + 138);
 }
 
-/// The preview's sample: a record, the ULA bank and the tile bank.
-struct Sample {
-    record: Vec<u8>,
-    ula: Vec<u8>,
-    tile: Vec<u8>,
+/// The preview's sample: its record, its ULA bank and its tile bank, in the folder `sample`.
+fn sample(part: &str) -> Vec<u8> {
+    let path = PathBuf::from(env!("CARGO_MANIFEST_DIR"))
+        .join("sample")
+        .join(part);
+    std::fs::read(&path).unwrap_or_else(|fault| panic!("{}: {fault}", path.display()))
 }
 
-/// The sample in the folder that `NAREPHON_SAMPLE` names; none without it.
-fn sample_state_and_banks() -> Option<Sample> {
-    let folder = PathBuf::from(std::env::var_os("NAREPHON_SAMPLE")?);
-    let read = |name: &str| {
-        let path = folder.join(name);
-        std::fs::read(&path).unwrap_or_else(|fault| panic!("{}: {fault}", path.display()))
-    };
-    Some(Sample {
-        record: read("record"),
-        ula: read("ula"),
-        tile: read("tile"),
-    })
+/// The sums that the gate holds the preview's own sample to, one for each line.
+fn stored_sums() -> Vec<String> {
+    let path =
+        PathBuf::from(env!("CARGO_MANIFEST_DIR")).join("../../../crates/sample_preview/stdout");
+    let text = std::fs::read_to_string(&path)
+        .unwrap_or_else(|fault| panic!("{}: {fault}", path.display()));
+    text.lines().map(str::to_string).collect()
 }
 
+/// Model and library draw the sample alike, and as the preview does.
 #[test]
 fn the_previews_sample() {
-    let Some(sample) = sample_state_and_banks() else {
-        say("the preview's sample: not drawn, NAREPHON_SAMPLE is not set");
-        return;
-    };
-    let (reply, state) = model::read_record(&sample.record);
+    let (record, ula, tile) = (sample("record"), sample("ula"), sample("tile"));
+    let sums = stored_sums();
+    let (reply, state) = model::read_record(&record);
     assert_eq!(reply, 0, "the sample's record");
+    assert_eq!(sums.len(), 256, "a sum for each line");
     for line in 0..256 {
         let mut wanted = [0xAAAA; model::DOTS];
         let mut dots = wanted;
-        let reply = model::draw(line, &sample.ula, &sample.tile, &state, &mut wanted);
+        let reply = model::draw(line, &ula, &tile, &state, &mut wanted);
         assert_eq!(reply, 0, "the model's reply to line {line}");
-        let answer = narephon::draw(&sample.record, &sample.ula, &sample.tile, line, &mut dots);
+        let answer = narephon::draw(&record, &ula, &tile, line, &mut dots);
         assert_eq!(answer, Ok(()), "line {line}");
         assert!(dots == wanted, "line {line} differs");
+        let sum = format!("{:08x}", model::sums::dots_sum(&dots));
+        assert_eq!(sum, sums[line as usize], "the stored sum of line {line}");
     }
     say("the preview's sample: 256 lines drawn alike");
 }
