@@ -67,6 +67,14 @@ impl Tiles {
         None
     }
 
+    /// Looks among all definitions, and compares only those of the same key.
+    fn find_marked(&self, key: u64, cell: &Cell) -> Option<Place> {
+        let keys = &self.keys[..self.count];
+        (0..keys.len())
+            .filter(|&number| keys[number] == key)
+            .find_map(|number| self.turn(number, cell))
+    }
+
     /// Looks among all definitions.
     fn find_plain(&self, cell: &Cell) -> Option<Place> {
         (0..self.count).find_map(|number| self.turn(number, cell))
@@ -206,17 +214,22 @@ fn picture_cell(picture: &Picture, number: usize) -> Cell {
     })
 }
 
+/// How a cell's definition is looked for.
+const CHAINED: u8 = 0;
+const MARKED: u8 = 1;
+const PLAIN: u8 = 2;
+
 /// The places of all cells, none where there are more than `allowed` tiles.
-fn places<const PLAIN: bool>(picture: &Picture, allowed: usize) -> Option<(Tiles, [Place; CELLS])> {
+fn places<const HOW: u8>(picture: &Picture, allowed: usize) -> Option<(Tiles, [Place; CELLS])> {
     let mut tiles = Tiles::new();
     let mut places = [Place { number: 0, turn: 0 }; CELLS];
     for (number, place) in places.iter_mut().enumerate() {
         let cell = picture_cell(picture, number);
-        let (key, found) = if PLAIN {
-            (0, tiles.find_plain(&cell))
-        } else {
-            let key = key(&cell);
-            (key, tiles.find(key, &cell))
+        let key = if HOW == PLAIN { 0 } else { key(&cell) };
+        let found = match HOW {
+            CHAINED => tiles.find(key, &cell),
+            MARKED => tiles.find_marked(key, &cell),
+            _ => tiles.find_plain(&cell),
         };
         *place = match found {
             Some(found) => found,
@@ -226,7 +239,7 @@ fn places<const PLAIN: bool>(picture: &Picture, allowed: usize) -> Option<(Tiles
     Some((tiles, places))
 }
 
-fn pack_by<const PLAIN: bool>(
+fn pack_by<const HOW: u8>(
     picture: &[u8],
     allowed: u32,
     offset: u32,
@@ -243,7 +256,7 @@ fn pack_by<const PLAIN: bool>(
     if allowed > 256 || offset > 15 {
         return (12, 0);
     }
-    let Some((tiles, places)) = places::<PLAIN>(picture, allowed as usize) else {
+    let Some((tiles, places)) = places::<HOW>(picture, allowed as usize) else {
         return (11, 0);
     };
     for (entry, place) in map.chunks_exact_mut(2).zip(&places) {
@@ -267,7 +280,18 @@ pub fn pack(
     map: &mut [u8],
     definitions: &mut [u8],
 ) -> (u8, u32) {
-    pack_by::<false>(picture, allowed, offset, map, definitions)
+    pack_by::<CHAINED>(picture, allowed, offset, map, definitions)
+}
+
+/// The same, looking at the key of each definition in turn.
+pub fn pack_marked(
+    picture: &[u8],
+    allowed: u32,
+    offset: u32,
+    map: &mut [u8],
+    definitions: &mut [u8],
+) -> (u8, u32) {
+    pack_by::<MARKED>(picture, allowed, offset, map, definitions)
 }
 
 /// The same, comparing each cell with each definition.
@@ -278,7 +302,7 @@ pub fn pack_plain(
     map: &mut [u8],
     definitions: &mut [u8],
 ) -> (u8, u32) {
-    pack_by::<true>(picture, allowed, offset, map, definitions)
+    pack_by::<PLAIN>(picture, allowed, offset, map, definitions)
 }
 
 /// The fewest tiles that draw a picture; 11 where 256 are not enough.
@@ -286,7 +310,7 @@ pub fn fewest(picture: &[u8]) -> (u8, u32) {
     let Ok(picture) = <&Picture>::try_from(picture) else {
         return (3, 0);
     };
-    match places::<false>(picture, MOST_TILES) {
+    match places::<CHAINED>(picture, MOST_TILES) {
         Some((tiles, _)) => (0, tiles.count as u32),
         None => (11, 0),
     }

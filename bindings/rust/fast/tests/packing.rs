@@ -53,31 +53,25 @@ fn sheet(random: &mut Random, kinds: u64, colours: u64, dots: u64) -> Vec<u8> {
     picture
 }
 
-/// Packs with all three and compares; the answer.
+/// Packs with model and each of fast's ways and compares; the answer.
 fn compare(picture: &[u8], allowed: u32, offset: u32, lengths: (usize, usize)) -> (u8, u32) {
     let mut map = vec![0xAA; lengths.0];
     let mut definitions = vec![0xAA; lengths.1];
-    let (mut quick_map, mut quick_definitions) = (map.clone(), definitions.clone());
-    let (mut plain_map, mut plain_definitions) = (map.clone(), definitions.clone());
+    let ways = [fast::pack, fast::pack_marked, fast::pack_plain];
+    let before = (map.clone(), definitions.clone());
     let answer = model::pack(picture, allowed, offset, &mut map, &mut definitions);
-    let quick = fast::pack(
-        picture,
-        allowed,
-        offset,
-        &mut quick_map,
-        &mut quick_definitions,
-    );
-    let plain = fast::pack_plain(
-        picture,
-        allowed,
-        offset,
-        &mut plain_map,
-        &mut plain_definitions,
-    );
-    assert_eq!(quick, answer);
-    assert_eq!(plain, answer);
-    assert!(quick_map == map && quick_definitions == definitions);
-    assert!(plain_map == map && plain_definitions == definitions);
+    for way in ways {
+        let (mut quick_map, mut quick_definitions) = before.clone();
+        let quick = way(
+            picture,
+            allowed,
+            offset,
+            &mut quick_map,
+            &mut quick_definitions,
+        );
+        assert_eq!(quick, answer);
+        assert!(quick_map == map && quick_definitions == definitions);
+    }
     if answer.0 == 0 {
         assert_eq!(model::draws(&map, &definitions, offset, picture), 0);
     }

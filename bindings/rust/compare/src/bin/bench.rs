@@ -210,7 +210,7 @@ fn frame_row(random: &mut Random) -> Row {
     }
 }
 
-/// A packing of each kind of picture, beside fast with the same skipping and beside plain comparing.
+/// A packing of each kind of picture, beside fast with the same skipping, beside plain comparing, and beside a search by hash.
 fn packings(random: &mut Random) {
     let classes: Vec<pictures::Cell> = (0..256).map(|_| pictures::noise(random)).collect();
     let near = pictures::nearly_equal(random, 256);
@@ -226,14 +226,16 @@ fn packings(random: &mut Random) {
         ("one class", pictures::sheet(random, &one)),
         ("noise, refused", random.bytes(narephon::PICTURE)),
     ];
-    let (mut skipping, mut plain) = (Vec::new(), Vec::new());
+    let (mut skipping, mut plain, mut chained) = (Vec::new(), Vec::new(), Vec::new());
     for (what, picture) in &kinds {
-        let [first, second] = packing(what, picture);
+        let [first, second, third] = packing(what, picture);
         skipping.push(first);
         plain.push(second);
+        chained.push(third);
     }
     print_table("A packing; fast skips in the same way", &skipping);
     print_table("A packing; fast compares each cell with each tile", &plain);
+    print_table("A packing; fast finds a cell's tile by hash", &chained);
 }
 
 /// A packing's buffers and what came of it.
@@ -258,7 +260,12 @@ impl Packed {
         self.count = packed.unwrap_or(0);
     }
 
-    fn fast(&mut self, picture: &[u8]) {
+    fn marked(&mut self, picture: &[u8]) {
+        let (map, definitions) = (&mut self.map, &mut self.definitions);
+        self.count = fast::pack_marked(black_box(picture), 256, 0, map, definitions).1;
+    }
+
+    fn chained(&mut self, picture: &[u8]) {
         let (map, definitions) = (&mut self.map, &mut self.definitions);
         self.count = fast::pack(black_box(picture), 256, 0, map, definitions).1;
     }
@@ -273,23 +280,26 @@ impl Packed {
     }
 }
 
-fn packing(what: &str, picture: &[u8]) -> [Row; 2] {
-    let mut packed = [Packed::new(), Packed::new(), Packed::new()];
-    let [ours, skipping, plain] = &mut packed;
+fn packing(what: &str, picture: &[u8]) -> [Row; 3] {
+    let mut packed = [(); 4].map(|()| Packed::new());
+    let [ours, marked, plain, chained] = &mut packed;
     let times = interleaved(
         100,
         1,
         &mut [
             &mut || ours.narephon(picture),
-            &mut || skipping.fast(picture),
+            &mut || marked.marked(picture),
             &mut || plain.plain(picture),
+            &mut || chained.chained(picture),
         ],
     );
-    assert!(ours.same(skipping) && ours.same(plain), "{what} differs");
-    [(times[1], PACKING), (times[2], PACKING_PLAIN)].map(|(fast, target)| Row {
+    let same = ours.same(marked) && ours.same(plain) && ours.same(chained);
+    assert!(same, "{what} differs");
+    let targets = [Some(PACKING), Some(PACKING_PLAIN), None];
+    [0, 1, 2].map(|k| Row {
         what: what.to_string(),
         narephon: times[0],
-        fast,
-        target: Some(target),
+        fast: times[k + 1],
+        target: targets[k],
     })
 }
