@@ -7,7 +7,6 @@ use lib.Dec.{leb, ltb, eqb}
 use borrow.Author.Tests.{leb-true, ltb-true}
 use Rattle.state.specs.Lawful.{isMask, isChoice, lawfulUla, lawfulPalette, lawfulTiles, lawfulTurns, lawfulPorts, allColours, lawfulState}
 use Rattle.state.specs.declared.State.{State}
-use Rattle.ula.specs.Bounds.{Drawable}
 
 pub left-true : (a b : Bool) → (a && b) ≡ true → a ≡ true
 left-true true b e = refl
@@ -26,7 +25,8 @@ five a b c d e h =
     (left-true a b h2, right-true a b h2, right-true (a && b) c h3, right-true (a && b && c) d h4, right-true (a && b && c && d) e h)
 
 pub record Bounded (s : State) : Type 0 where
-  pub drawable : Drawable s
+  pub mask : isMask (s .palette .mask) ≡ true
+  pub border : s .ports .border ≤ 7
   pub xhigh : s .tiles .xhigh ≤ 3
   pub map : s .tiles .map < 64
   pub definitions : s .tiles .definitions < 64
@@ -42,7 +42,8 @@ bounded s e =
     let tiles = five (leb (t .transparent) 15) (eqb (t .control % 16) 0) (leb (t .xhigh) 3) (ltb (t .map) 64) (ltb (t .definitions) 64) (parts .2) in
     let mask = left-true (isMask (p .mask)) (isChoice (p .control)) (left-true (isMask (p .mask) && isChoice (p .control)) (p .held || eqb (p .half) 0) (parts .1)) in
     record {
-      drawable = record { mask = mask; border = leb-true (s .ports .border) 7 (left-true (leb (s .ports .border) 7) (ltb (s .ports .select) 128) (parts .4)) };
+      mask = mask;
+      border = leb-true (s .ports .border) 7 (left-true (leb (s .ports .border) 7) (ltb (s .ports .select) 128) (parts .4));
       xhigh = leb-true (t .xhigh) 3 (tiles .2);
       map = ltb-true (t .map) 64 (tiles .3);
       definitions = ltb-true (t .definitions) 64 (tiles .4);

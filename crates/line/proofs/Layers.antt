@@ -11,12 +11,16 @@ use Rattle.lists.specs.Tab.{tab}
 use Rattle.lists.proofs.Tab.{tab-ext, getD-tab}
 use Rattle.lists.proofs.Cond.{if-true, if-false}
 use Rattle.colour.specs.Bytes.{widened}
-use Rattle.state.specs.Bits.{ulaOn}
+use Rattle.state.specs.Bits.{ulaOn, tileSecondShown}
 use Rattle.state.specs.declared.State.{State}
+use Rattle.state.specs.declared.Ula.{Ula}
+use Rattle.state.specs.declared.Tiles.{Tiles}
 use Rattle.surface.specs.Dots.{clipped, above}
 use Rattle.surface.specs.declared.lines.LineNumber.{LineNumber}
 use Rattle.ula.specs.Display.{ulaDot}
+use Rattle.ula.specs.Bounds.{shownState}
 use Rattle.ula.proofs.Clips.{entries}
+use Rattle.ula.proofs.Parts.{same-dots}
 use Rattle.tilemap.specs.Index.{widthOf}
 use Rattle.tilemap.specs.Dots.{acrossOf, tileRow, tileDot}
 use Rattle.tilemap.specs.Setup.{windowOf, layoutOf}
@@ -88,14 +92,24 @@ module _ (t : Layout) (w : Window) (clear : ℕ) (stencil : Bool) (pal bank out 
       ∙ ap (λ (b : Bool). composed b pal (getD out k 0) 512) (sym s)
       ∙ ap (composed stencil pal (getD out k 0)) (no-tile o k))
 
-pub whole-line : (s : State) (line : LineNumber) (ula tile u pal out : List ℕ) (t : Layout) (w : Window) (stencil : Bool)
-    → out ≡ tab (λ (k : ℕ). composed stencil pal (getD u k 0) (tileDot w t (s .tiles .transparent) tile (line .0) k)) 640
-    → u ≡ tab (ulaDot s ula line) 640 → pal ≡ tilePalette s → t ≡ layoutOf (s .tiles) (ulaOn (s .ula))
-    → w ≡ windowOf (s .tiles) (s .tileclip) line → stencil ≡ stencilOn (s .ula) (s .tiles)
+-- what the state says of the tilemap, put in its place
+pub tiles-of : (u : Ula) (v : Tiles) (clip first second bank pal old out : List ℕ) (line : LineNumber) (t : Layout) (w : Window) (stencil : Bool)
+    → out ≡ tab (λ (k : ℕ). composed stencil pal (getD old k 0) (tileDot w t (v .transparent) bank (line .0) k)) 640
+    → pal ≡ cond (tileSecondShown v) second first → t ≡ layoutOf v (ulaOn u) → w ≡ windowOf v clip line → stencil ≡ stencilOn u v
+    → out ≡ tab (λ (k : ℕ). composed (stencilOn u v) (cond (tileSecondShown v) second first) (getD old k 0)
+    (tileDot (windowOf v clip line) (layoutOf v (ulaOn u)) (v .transparent) bank (line .0) k)) 640
+tiles-of u v clip first second bank pal old out line t w stencil e ep et ew es =
+    e ∙ tab-ext _ _ 640 (λ k h. rw (ep, et, ew, es))
+
+pub whole-line : (s : State) (line : LineNumber) (ula tile u out : List ℕ)
+    → out ≡ tab (λ (k : ℕ). composed (stencilOn (s .ula) (s .tiles)) (cond (tileSecondShown (s .tiles)) (s .tilesecond) (s .tilefirst)) (getD u k 0)
+    (tileDot (windowOf (s .tiles) (s .tileclip) line) (layoutOf (s .tiles) (ulaOn (s .ula))) (s .tiles .transparent) tile (line .0) k)) 640
+    → u ≡ tab (ulaDot (shownState (s .ula) (s .palette) (s .ports) (s .frame) (s .ulaclip) (s .plus) (s .ulafirst) (s .ulasecond)) ula line) 640
     → out ≡ composedLine s ula tile line
-unfolding composedLine composedDot tileDotOf
-whole-line s line ula tile u pal out t w stencil e eu ep et ew es =
-    e ∙ tab-ext _ _ 640 (λ k h. rw (eu, ep, et, ew, es, getD-tab (ulaDot s ula line) 640 k h))
+unfolding composedLine composedDot tileDotOf tilePalette
+whole-line s line ula tile u out e eu =
+    let d : u ≡ tab (ulaDot s ula line) 640 = eu ∙ ap (λ (f : ℕ → ℕ). tab f 640) (same-dots s ula line) in
+    e ∙ tab-ext _ _ 640 (λ k h. rw (d, getD-tab (ulaDot s ula line) 640 k h))
 
 pub finished-line : (s : State) (line : LineNumber) (ula tile row out : List ℕ) (fallback : ℕ)
     → out ≡ finished fallback row → row ≡ composedLine s ula tile line → fallback ≡ widened (s .ula .fallback) → out ≡ drawnLine s ula tile line

@@ -1,15 +1,17 @@
 // A line before the fallback, and the fallback over it.
 ghost use mathlib.Core.Path.{_≡_};
-ghost use mathlib.Core.Bool.{true};
-ghost use Prim.Native.Nat.{ℕ, _/_, _<_};
+ghost use mathlib.Core.Bool.{true, cond};
+ghost use Prim.Native.Nat.{ℕ, _/_, _<_, _≤_};
 ghost use lib.ListN.{length, getD};
 ghost use Rattle.lists.specs.Tab.{tab};
+ghost use Rattle.state.specs.Bits.{ulaOn, tileSecondShown};
 ghost use Rattle.state.specs.Lawful.{lawfulState};
 ghost use Rattle.surface.specs.Lines.{isLine};
 ghost use Rattle.tilemap.specs.Dots.{tileDot};
+ghost use Rattle.tilemap.specs.Setup.{layoutOf, windowOf};
 ghost use Rattle.tilemap.specs.Bounds.{Laid};
 ghost use Rattle.line.specs.Compose.{composed};
-ghost use Rattle.line.specs.Lines.{tilePalette, stencilOn, composedLine, finished};
+ghost use Rattle.line.specs.Lines.{stencilOn, composedLine, finished};
 use crate::compose::compose_row;
 use lists::wide;
 use state::State;
@@ -19,13 +21,14 @@ use surface::LineNumber;
 use tilemap::Layout;
 use tilemap::Window;
 
-fn tile_palette(s: State) -> [u16; 256]
-    ensures { λ r. ⌜ r ≡ tilePalette s ⌝ }
+// The palette shown is lent, not copied.
+fn tile_palette<'a>(t: Tiles, first: &'a [u16; 256], second: &'a [u16; 256]) -> &'a [u16; 256]
+    ensures { λ r. ⌜ now r ≡ cond (tileSecondShown t) (now (second .entry)) (now (first .entry)) ⌝ }
 {
-    if s.tiles.control / 16 % 2 == 1 {
-        s.tilesecond
+    if t.control / 16 % 2 == 1 {
+        second
     } else {
-        s.tilefirst
+        first
     }
 }
 
@@ -63,19 +66,57 @@ fn layered(
     }
 }
 
+// The tilemap's dots composed with the ULA's in out, of any state with these parts.
+fn tiles_over<'a>(
+    u: Ula,
+    t: Tiles,
+    clip: &'a [u8; 4],
+    first: &'a [u16; 256],
+    second: &'a [u16; 256],
+    bank: &[u8],
+    line: LineNumber,
+    out: &mut [u16],
+)
+    requires { ⌜ (t .xhigh ≤ 3) × (t .map < 64) × (t .definitions < 64) × (line .0 < 256) × (length (now bank) ≡ 16384) × (length (now out) ≡ 640) ⌝ }
+    ensures { λ r. ⌜ now (out .exit) ≡ tab (λ (k : ℕ). composed (stencilOn u t) (cond (tileSecondShown t) (now (second .entry)) (now (first .entry))) (getD (now (out .entry)) k 0)
+        (tileDot (windowOf t (now (clip .entry)) line) (layoutOf t (ulaOn u)) (t .transparent) (now (bank .entry)) (line .0) k)) 640 ⌝ }
+{
+    let pal = tile_palette(t, first, second);
+    let w = tilemap::window_of(t, clip, line);
+    let l = tilemap::layout_of(t, state::ula_on(u));
+    let stencil = stencil_on(u, t);
+    layered(l, w, t.transparent, stencil, pal, bank, line, out);
+}
+
 // The 640 composed dots of a line, 512 where transparent. Asks for a lawful state, a line and lengths that the caller has judged;
 // what the state alone is refused for it does not ask.
 pub fn composed_line(s: State, line: LineNumber, ula: &[u8], tile: &[u8], out: &mut [u16])
     requires { ⌜ (lawfulState s ≡ true) × (isLine line ≡ true) × (length (now ula) ≡ 16384) × (length (now tile) ≡ 16384) × (length (now out) ≡ 640) ⌝ }
     ensures { λ r. ⌜ now (out .exit) ≡ composedLine s (now (ula .entry)) (now (tile .entry)) line ⌝ }
 {
-    ula::ula_row(s, ula, line, out);
-    let pal = tile_palette(s);
-    let clip = s.tileclip;
-    let w = tilemap::window_of(s.tiles, &clip, line);
-    let t = tilemap::layout_of(s.tiles, state::ula_on(s.ula));
-    let stencil = stencil_on(s.ula, s.tiles);
-    layered(t, w, s.tiles.transparent, stencil, &pal, tile, line, out);
+    ula::ula_row(
+        s.ula,
+        s.palette,
+        s.ports,
+        s.frame,
+        &s.ulaclip,
+        &s.plus,
+        &s.ulafirst,
+        &s.ulasecond,
+        ula,
+        line,
+        out,
+    );
+    tiles_over(
+        s.ula,
+        s.tiles,
+        &s.tileclip,
+        &s.tilefirst,
+        &s.tilesecond,
+        tile,
+        line,
+        out,
+    );
 }
 
 // The fallback colour where a composed line is transparent.

@@ -1,16 +1,20 @@
 -- What a line shows of the state, put together from its parts.
 use Prim.Native.Nat.{ℕ}
-use mathlib.Core.Path.{_≡_, ap, _∙_}
+use mathlib.Core.Path.{_≡_, refl, ap, _∙_}
 use mathlib.Core.List.{List}
-use mathlib.Core.Bool.{Bool}
+use mathlib.Core.Bool.{Bool, cond}
 use Rattle.lists.specs.Tab.{tab}
-use Rattle.state.specs.Bits.{ulaOn}
+use Rattle.state.specs.Bits.{ulaOn, ulaSecondShown}
 use Rattle.state.specs.declared.State.{State}
+use Rattle.state.specs.declared.Ula.{Ula}
+use Rattle.state.specs.declared.Palette.{Palette}
+use Rattle.state.specs.declared.Ports.{Ports}
 use Rattle.surface.specs.Lines.{inDisplay, displayLine}
 use Rattle.surface.specs.declared.lines.LineNumber.{LineNumber}
 use Rattle.attribute.specs.Schemes.{coloursOf}
 use Rattle.attribute.specs.declared.schemes.Colours.{Colours}
 use Rattle.ula.specs.Places.{ulaPalette, placeOf, borderOf, ulaLine}
+use Rattle.ula.specs.Bounds.{shownState}
 use Rattle.ula.specs.Display.{lineDot, ulaDot}
 use Rattle.ula.specs.declared.places.Place.{Place}
 use Rattle.ula.specs.declared.places.UlaLine.{UlaLine}
@@ -26,9 +30,17 @@ unfolding ulaLine
 line-of s pal line on display border place colours o d b p c =
     cc
 
--- the dots of a line of a state, from what it shows and its palette
-pub dots-of : (s : State) (bank pal out : List ℕ) (line : LineNumber) (u : UlaLine) → out ≡ tab (lineDot u pal (s .plus) bank) 640
-    → u ≡ ulaLine s pal line → pal ≡ ulaPalette s → out ≡ tab (ulaDot s bank line) 640
-unfolding ulaDot
-dots-of s bank pal out line u e d p =
-    e ∙ ap (λ (v : UlaLine). tab (lineDot v pal (s .plus) bank) 640) d ∙ ap (λ (q : List ℕ). tab (lineDot (ulaLine s q line) q (s .plus) bank) 640) p
+-- the dots of a line, from what it shows and its palette
+pub dots-of : (u : Ula) (p : Palette) (ports : Ports) (frame : ℕ) (clip plus first second bank pal out : List ℕ) (line : LineNumber) (l : UlaLine)
+    → out ≡ tab (lineDot l pal plus bank) 640 → l ≡ ulaLine (shownState u p ports frame clip plus pal pal) pal line
+    → pal ≡ cond (ulaSecondShown p) second first → out ≡ tab (ulaDot (shownState u p ports frame clip plus first second) bank line) 640
+unfolding ulaDot ulaLine ulaPalette
+dots-of u p ports frame clip plus first second bank pal out line l e d q =
+    e ∙ ap (λ (v : UlaLine). tab (lineDot v pal plus bank) 640) d
+    ∙ ap (λ (c : List ℕ). tab (lineDot (ulaLine (shownState u p ports frame clip plus first second) c line) c plus bank) 640) q
+
+-- of a state no other part shows
+pub same-dots : (s : State) (bank : List ℕ) (line : LineNumber)
+    → ulaDot (shownState (s .ula) (s .palette) (s .ports) (s .frame) (s .ulaclip) (s .plus) (s .ulafirst) (s .ulasecond)) bank line ≡ ulaDot s bank line
+unfolding ulaDot ulaLine ulaPalette
+same-dots s bank line = refl

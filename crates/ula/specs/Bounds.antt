@@ -1,9 +1,11 @@
 -- Bounds that the filling of a row rests on.
-use Prim.Native.Nat.{_≤_, _<_}
-use mathlib.Core.Path.{_≡_}
-use mathlib.Core.Bool.{true}
-use Rattle.state.specs.Lawful.{isMask}
+use Prim.Native.Nat.{ℕ, _<_}
+use mathlib.Core.List.{List}
+use Rattle.state.specs.Reset.{resetState}
 use Rattle.state.specs.declared.State.{State}
+use Rattle.state.specs.declared.Ula.{Ula}
+use Rattle.state.specs.declared.Palette.{Palette}
+use Rattle.state.specs.declared.Ports.{Ports}
 use Rattle.attribute.specs.Bounds.{Solid}
 use Rattle.ula.specs.declared.places.Place.{Place}
 use Rattle.ula.specs.declared.places.UlaLine.{UlaLine}
@@ -19,7 +21,20 @@ pub record Ready (u : UlaLine) : Type 0 where
   pub place : Placed (u .place)
   pub colours : Solid (u .colours)
 
--- what drawing the ULA's dots asks of a lawful state
-pub record Drawable (s : State) : Type 0 where
-  pub mask : isMask (s .palette .mask) ≡ true
-  pub border : s .ports .border ≤ 7
+-- the parts of a state that its ULA dots are drawn from, in a state whose other parts are those of a reset
+abbrev pub shownState : Ula → Palette → Ports → ℕ → List ℕ → List ℕ → List ℕ → List ℕ → State
+shownState u p ports frame clip plus first second = record {
+  ula = u;
+  tiles = resetState .tiles;
+  palette = p;
+  turns = resetState .turns;
+  ports = ports;
+  frame = frame;
+  ulaclip = clip;
+  tileclip = resetState .tileclip;
+  plus = plus;
+  ulafirst = first;
+  ulasecond = second;
+  tilefirst = resetState .tilefirst;
+  tilesecond = resetState .tilesecond;
+}

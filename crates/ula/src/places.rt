@@ -1,17 +1,18 @@
 // What of the state a line shows, read once a line.
 ghost use mathlib.Core.Path.{_≡_};
-ghost use mathlib.Core.Bool.{true};
+ghost use mathlib.Core.Bool.{true, cond};
 ghost use Prim.Native.Nat.{_<_, _≤_};
+ghost use Rattle.state.specs.Bits.{ulaSecondShown};
 ghost use Rattle.state.specs.Lawful.{isMask};
 ghost use Rattle.surface.specs.Lines.{isLine};
-ghost use Rattle.ula.specs.Places.{ulaPalette, placeOf, borderOf, ulaLine};
-ghost use Rattle.ula.specs.Bounds.{Placed, Ready, Drawable};
+ghost use Rattle.ula.specs.Places.{placeOf, borderOf, ulaLine};
+ghost use Rattle.ula.specs.Bounds.{Placed, Ready, shownState};
 ghost use Rattle.attribute.specs.Bounds.{Solid};
 use address::Mode;
 use attribute::Colours;
 use lists::wide;
+use state::Palette;
 use state::Ports;
-use state::State;
 use state::Ula;
 use surface::LineNumber;
 
@@ -36,13 +37,14 @@ pub struct UlaLine {
     pub colours: Colours,
 }
 
-pub fn ula_palette(s: State) -> [u16; 256]
-    ensures { λ r. ⌜ r ≡ ulaPalette s ⌝ }
+// The palette shown is lent, not copied.
+pub fn ula_palette<'a>(p: Palette, first: &'a [u16; 256], second: &'a [u16; 256]) -> &'a [u16; 256]
+    ensures { λ r. ⌜ now r ≡ cond (ulaSecondShown p) (now (second .entry)) (now (first .entry)) ⌝ }
 {
-    if s.palette.control / 2 % 2 == 1 {
-        s.ulasecond
+    if p.control / 2 % 2 == 1 {
+        second
     } else {
-        s.ulafirst
+        first
     }
 }
 
@@ -81,17 +83,24 @@ fn border_of(p: Place, l: Colours, pal: &[u16; 256], plus: &[u8; 64], border: u8
     attribute::border_dot(l, pal, plus, mode6, p.attribute, border)
 }
 
-// The drawer has judged the line, and a lawful state is drawable.
-pub fn ula_line(s: State, pal: &[u16; 256], line: LineNumber) -> UlaLine
-    requires { ⌜ (Drawable s) × (isLine line ≡ true) ⌝ }
-    ensures { λ r. ⌜ (r ≡ ulaLine s (now (pal .entry)) line) × (Ready r) ⌝ }
+// The drawer has judged the line, and a lawful state has such a mask and border.
+pub fn ula_line(
+    u: Ula,
+    p: Palette,
+    ports: Ports,
+    frame: u8,
+    clip: &[u8; 4],
+    plus: &[u8; 64],
+    pal: &[u16; 256],
+    line: LineNumber,
+) -> UlaLine
+    requires { ⌜ (isMask (p .mask) ≡ true) × (ports .border ≤ 7) × (isLine line ≡ true) ⌝ }
+    ensures { λ r. ⌜ (r ≡ ulaLine (shownState u p ports frame (now (clip .entry)) (now (plus .entry)) (now (pal .entry)) (now (pal .entry))) (now (pal .entry)) line) × (Ready r) ⌝ }
 {
-    let clip = s.ulaclip;
-    let plus = s.plus;
-    let place = place_of(s.ula, s.ports, &clip, surface::display_line(line));
-    let colours = attribute::colours_of(s.ula, s.palette, s.ports, s.frame);
-    let border = border_of(place, colours, pal, &plus, s.ports.border);
-    let on = state::ula_on(s.ula);
+    let place = place_of(u, ports, clip, surface::display_line(line));
+    let colours = attribute::colours_of(u, p, ports, frame);
+    let border = border_of(place, colours, pal, plus, ports.border);
+    let on = state::ula_on(u);
     let display = surface::in_display(line);
     UlaLine {
         on,

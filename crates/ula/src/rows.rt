@@ -1,15 +1,16 @@
 // The rows of the display in each mode, the clip over them, and the 640 dots of a line.
 ghost use mathlib.Core.Path.{_≡_};
 ghost use mathlib.Core.Bool.{true};
-ghost use Prim.Native.Nat.{ℕ, _*_, _/_, _<_};
+ghost use Prim.Native.Nat.{ℕ, _*_, _/_, _<_, _≤_};
 ghost use lib.ListN.{length, getD};
 ghost use Rattle.lists.specs.Tab.{tab};
 ghost use Rattle.surface.specs.Dots.{clipped};
+ghost use Rattle.state.specs.Lawful.{isMask};
 ghost use Rattle.surface.specs.Lines.{isLine};
 ghost use Rattle.attribute.specs.Bounds.{Solid};
 ghost use Rattle.ula.specs.Display.{pixelDot, wideDot, loresDot, modeDot, displayDot, lineDot, ulaDot};
 ghost use Rattle.ula.specs.Rows.{wideLit, loresShade};
-ghost use Rattle.ula.specs.Bounds.{Placed, Ready, Drawable};
+ghost use Rattle.ula.specs.Bounds.{Placed, Ready, shownState};
 use crate::cells::pixel_cell;
 use crate::cells::wide_cell;
 use crate::places::Place;
@@ -18,7 +19,9 @@ use crate::places::ula_line;
 use crate::places::ula_palette;
 use attribute::Colours;
 use lists::wide;
-use state::State;
+use state::Palette;
+use state::Ports;
+use state::Ula;
 use surface::LineNumber;
 
 fn pixel_row(p: Place, l: Colours, pal: &[u16; 256], plus: &[u8; 64], bank: &[u8], out: &mut [u16])
@@ -152,13 +155,25 @@ fn line_row(u: UlaLine, pal: &[u16; 256], plus: &[u8; 64], bank: &[u8], out: &mu
     }
 }
 
-// The ULA's 640 dots of a line, 512 where transparent. The caller has judged the line and the lengths, and a lawful state is drawable.
-pub fn ula_row(s: State, bank: &[u8], line: LineNumber, out: &mut [u16])
-    requires { ⌜ (Drawable s) × (isLine line ≡ true) × (length (now bank) ≡ 16384) × (length (now out) ≡ 640) ⌝ }
-    ensures { λ r. ⌜ now (out .exit) ≡ tab (ulaDot s (now (bank .entry)) line) 640 ⌝ }
+// The ULA's 640 dots of a line, 512 where transparent, of any state with these parts: a whole state would be copied at each call.
+// The caller has judged the line and the lengths, and a lawful state has such a mask and border.
+pub fn ula_row<'a>(
+    u: Ula,
+    p: Palette,
+    ports: Ports,
+    frame: u8,
+    clip: &'a [u8; 4],
+    plus: &'a [u8; 64],
+    first: &'a [u16; 256],
+    second: &'a [u16; 256],
+    bank: &[u8],
+    line: LineNumber,
+    out: &mut [u16],
+)
+    requires { ⌜ (isMask (p .mask) ≡ true) × (ports .border ≤ 7) × (isLine line ≡ true) × (length (now bank) ≡ 16384) × (length (now out) ≡ 640) ⌝ }
+    ensures { λ r. ⌜ now (out .exit) ≡ tab (ulaDot (shownState u p ports frame (now (clip .entry)) (now (plus .entry)) (now (first .entry)) (now (second .entry))) (now (bank .entry)) line) 640 ⌝ }
 {
-    let pal = ula_palette(s);
-    let plus = s.plus;
-    let u = ula_line(s, &pal, line);
-    line_row(u, &pal, &plus, bank, out);
+    let pal = ula_palette(p, first, second);
+    let l = ula_line(u, p, ports, frame, clip, plus, pal, line);
+    line_row(l, pal, plus, bank, out);
 }

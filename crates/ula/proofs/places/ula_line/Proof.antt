@@ -1,5 +1,6 @@
 -- Each field is what its call ensures; the line is below 256.
 use Rattle.ula.specs.Places.{placeOf}
+use Rattle.ula.specs.Bounds.{shownState}
 use mathlib.Core.Path.{_∙_, ap}
 use Rattle.ula.proofs.Parts.{line-of}
 use native.Mathlib.Omega.{arith}
@@ -12,7 +13,7 @@ display-line-requires : tie.Need-display-line-requires
 display-line-requires c κs = search needs
 
 place-of-requires : tie.Need-place-of-requires
-place-of-requires c κs = let s = c .before .before .before .before in omega (arith, leb-true (s .args .line .0) 255 (s .pre .1))
+place-of-requires c κs = let s = c .before in omega (arith, leb-true (s .args .line .0) 255 (s .pre .2))
 
 colours-of-requires : tie.Need-colours-of-requires
 colours-of-requires c κs = search needs
@@ -27,10 +28,10 @@ in-display-requires : tie.Need-in-display-requires
 in-display-requires c κs = search needs
 
 returns : tie.Need-returns
-returns c = let b = c .before .before .before .before in
-    let s = b .before .before .before .before .before .before .args in (
-      line-of _ _ _ _ _ _ _ _ (c .before .ula-on .ensures) (c .in-display .ensures) (c .before .before .border-of .ensures)
-          (b .before .place-of .ensures .0 ∙ ap (placeOf (s .s .ula) (s .s .ports) (s .s .ulaclip)) (b .before .before .display-line .ensures)) (b .colours-of .ensures .0),
+returns c = let b = c .before .before .before in
+    let s = b .before .before .before .args in (
+      line-of (shownState (s .u) (s .p) (s .ports) (s .frame) (s .clip .now) (s .plus .now) (s .pal .now) (s .pal .now)) _ _ _ _ _ _ _ (c .before .ula-on .ensures) (c .in-display .ensures) (c .before .before .border-of .ensures)
+          (b .before .place-of .ensures .0 ∙ ap (placeOf (s .u) (s .ports) (s .clip .now)) (b .before .before .display-line .ensures)) (b .colours-of .ensures .0),
       record { place = b .before .place-of .ensures .1; colours = b .colours-of .ensures .1 },
     )
 

@@ -17,8 +17,9 @@ same-length : tie.Need-same-length
 same-length c = search needs
 
 returns : tie.Need-returns
-returns c = let u = c .before .before .before .before .before .before in
-    dots-of _ _ _ _ _ _ (c .before .before .line-row .ensures) (u .ula-line .ensures .0) (u .before .before .before .ula-palette .ensures)
+returns c = let l = c .before .before .before .before in
+    let s = l .before .before .before .before .args in
+    dots-of (s .u) (s .p) (s .ports) (s .frame) (s .clip .now) (s .plus .now) (s .first .now) (s .second .now) _ _ _ _ _ (c .before .before .line-row .ensures) (l .ula-line .ensures .0) (l .before .ula-palette .ensures)
 
 pub ula-row-spec : {M : Type 1} → statement M
 ula-row-spec =

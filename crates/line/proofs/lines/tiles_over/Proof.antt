@@ -1,0 +1,46 @@
+-- Each part is what its call ensures.
+use mathlib.Core.Path.{ap, _∙_}
+use Rattle.tilemap.specs.Setup.{layoutOf}
+use Rattle.line.proofs.Layers.{tiles-of}
+use borrow.Author.Needs.{needs}
+use Rattle.line.proofs.lines.tiles_over.Statement.{statement}
+use Rattle.line.proofs.lines.tiles_over.Tie as tie
+
+tile-palette-requires : tie.Need-tile-palette-requires
+tile-palette-requires c κs = search needs
+
+window-of-requires : tie.Need-window-of-requires
+window-of-requires c κs = search needs
+
+ula-on-requires : tie.Need-ula-on-requires
+ula-on-requires c κs = search needs
+
+layout-of-requires : tie.Need-layout-of-requires
+layout-of-requires c κs = search needs
+
+stencil-on-requires : tie.Need-stencil-on-requires
+stencil-on-requires c κs = search needs
+
+layered-requires : tie.Need-layered-requires
+layered-requires c κs = search needs
+
+same-length : tie.Need-same-length
+same-length c = search needs
+
+returns : tie.Need-returns
+returns c = let s = c .before .before .before .before .before .before .before .before .before .before .before .args in
+    let l = c .before .before .before .before .before in
+    tiles-of (s .u) (s .t) (s .clip .now) (s .first .now) (s .second .now) (s .bank .now) _ (s .out .now) _ _ _ _ _ (c .before .before .layered .ensures) (l .before .before .before .tile-palette .ensures) (l .layout-of .ensures .0 ∙ ap (layoutOf (s .t)) (l .before .ula-on .ensures)) (l .before .before .window-of .ensures) (c .before .before .before .before .stencil-on .ensures)
+
+pub tiles-over-spec : {M : Type 1} → statement M
+tiles-over-spec =
+    tie.close
+    (tie.spec
+    tile-palette-requires
+    window-of-requires
+    ula-on-requires
+    layout-of-requires
+    stencil-on-requires
+    layered-requires
+    same-length
+    returns)
