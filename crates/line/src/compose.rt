@@ -7,15 +7,13 @@ ghost use Rattle.surface.specs.Dots.{clipped};
 ghost use Rattle.tilemap.specs.Dots.{acrossOf};
 ghost use Rattle.line.specs.Compose.{tileColour, stencilled, composed};
 
+// The colour is read whether or not it shows, here and below, so that no dot costs a jump.
 fn tile_colour(pal: &[u16; 256], code: u16) -> u16
     ensures { λ r. ⌜ r ≡ tileColour (now (pal .entry)) code ⌝ }
 {
-    if code == 512 {
-        512
-    } else {
-        let i = (code % 256) as usize;
-        pal[i]
-    }
+    let i = (code % 256) as usize;
+    let c = pal[i];
+    if code == 512 { 512 } else { c }
 }
 
 fn stencil_dot(a: u16, b: u16) -> u16
@@ -29,14 +27,13 @@ fn composed_dot(stencil: bool, pal: &[u16; 256], u: u16, code: u16) -> u16
     ensures { λ r. ⌜ r ≡ composed stencil (now (pal .entry)) u code ⌝ }
 {
     let t = tile_colour(pal, code);
+    let both = stencil_dot(u, t);
+    let below = surface::over(u, t);
+    let above = surface::over(t, u);
     if stencil {
-        stencil_dot(u, t)
+        both
     } else {
-        if code / 256 == 1 {
-            surface::over(u, t)
-        } else {
-            surface::over(t, u)
-        }
+        if code / 256 == 1 { below } else { above }
     }
 }
 

@@ -21,15 +21,15 @@ over-requires-2 c κs = search needs
 
 returns : tie.Need-returns
 unfolding composed
-returns c = (cc) ∙ sym (if-true _ _ _ (c .before .if1 .taken))
+returns c = (cc) ∙ sym (if-true _ _ _ (c .if1 .taken))
 
 returns-2 : tie.Need-returns-2
 unfolding composed
-returns-2 c = (cc) ∙ sym (if-false _ _ _ (c .before .before .if1 .left) ∙ if-true _ _ _ (eq-eqb _ _ (c .before .if2 .taken)))
+returns-2 c = (cc) ∙ sym (if-false _ _ _ (c .before .if1 .left) ∙ if-true _ _ _ (eq-eqb _ _ (c .if2 .taken)))
 
 returns-3 : tie.Need-returns-3
 unfolding composed
-returns-3 c = (cc) ∙ sym (if-false _ _ _ (c .before .before .if1 .left) ∙ if-false _ _ _ (ne-eqb _ _ (c .before .if2 .left)))
+returns-3 c = (cc) ∙ sym (if-false _ _ _ (c .before .if1 .left) ∙ if-false _ _ _ (ne-eqb _ _ (c .if2 .left)))
 
 pub composed-dot-spec : {M : Type 1} → statement M
 composed-dot-spec =
