@@ -38,16 +38,15 @@ fn paper_colour(l: Colours, pal: &[u16; 256], plus: &[u8; 64], a: u8) -> u16
     }
 }
 
+// Both colours are read and one is chosen, so that a flash here and there along a row costs no jump.
 fn bit_colour(l: Colours, pal: &[u16; 256], plus: &[u8; 64], a: u8, bit: u8) -> u16
     requires { ⌜ Solid l ⌝ }
     ensures { λ r. ⌜ r ≡ bitColour l (now (pal .entry)) (now (plus .entry)) a bit ⌝ }
 {
     let k = l.scheme;
-    if is_ink(k, l.swap, a, bit) {
-        colour_at(k, pal, plus, ink_index(k, l.mask, a))
-    } else {
-        paper_colour(l, pal, plus, a)
-    }
+    let ink = colour_at(k, pal, plus, ink_index(k, l.mask, a));
+    let paper = paper_colour(l, pal, plus, a);
+    if is_ink(k, l.swap, a, bit) { ink } else { paper }
 }
 
 // The dot of a bit of the bitmap, before the clip.
