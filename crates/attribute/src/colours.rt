@@ -46,7 +46,11 @@ fn bit_colour(l: Colours, pal: &[u16; 256], plus: &[u8; 64], a: u8, bit: u8) -> 
     let k = l.scheme;
     let ink = colour_at(k, pal, plus, ink_index(k, l.mask, a));
     let paper = paper_colour(l, pal, plus, a);
-    if is_ink(k, l.swap, a, bit) { ink } else { paper }
+    if is_ink(k, l.swap, a, bit) {
+        ink
+    } else {
+        paper
+    }
 }
 
 // The dot of a bit of the bitmap, before the clip.
