@@ -1,12 +1,12 @@
--- The laws of a part placed in a buffer: it grows by one store, its buffer keeps its length, and what is placed right
--- after a prefix makes the prefix longer.
+-- The laws of a part placed in a buffer: it grows by one store, and what is placed right after a prefix makes the prefix
+-- longer.
 use mathlib.Core.Path.{_≡_, sym, ap, _∙_}
 use mathlib.Core.List.{List, [], _∷_, _++_, append-assoc, append-nil}
-use Prim.Native.Nat.{ℕ, _+_, _≤_, _<_}
+use Prim.Native.Nat.{ℕ, _+_, _<_}
 use native.Mathlib.Nat.{add-zero, add-assoc}
 use native.Mathlib.Numerals.{add-one}
 use native.Mathlib.Omega.{arith}
-use lib.ListN.{length, take, drop, set, length-append, length-drop, take-append-drop}
+use lib.ListN.{length, take, drop, set, length-append, take-append-drop}
 use lib.Seq.{drop-cons, set-at, take-at, drop-at, drop-drop, length-take-le}
 use Rattle.lists.specs.Placed.{placed}
 
@@ -26,12 +26,6 @@ module _ (b : List ℕ) (at : ℕ) where
         let t : length (take at b) ≡ at = length-take-le at b (omega arith) in
         let l : length (take at b ++ ys) ≡ at + length ys = length-append (take at b) ys ∙ ap (λ (k : ℕ). k + length ys) t in
         rw (e, put-one (take at b ++ ys) b (at + length ys) x l (omega arith), append-assoc (take at b), length-append ys, add-assoc)
-
-    pub placed-length : n ≤ length b → length (placed b at ys) ≡ length b
-    unfolding placed
-    placed-length h =
-        let t : length (take at b) ≡ at = length-take-le at b (omega arith) in
-        simp (length-append, length-drop) (omega arith)
 
   pub placed-two : (ys : List ℕ) (n x y : ℕ) → n ≡ at + length ys → n + 1 < length b
       → set (set (placed b at ys) n x) (n + 1) y ≡ placed b at (ys ++ (x ∷ y ∷ []))
