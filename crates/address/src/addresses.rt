@@ -4,6 +4,7 @@ ghost use mathlib.Core.Path.{_≡_};
 ghost use Prim.Native.Nat.{_+_, _≤_, _<_};
 ghost use Rattle.address.specs.Addresses.{byteAddress, cellAddress, bitmapAddress, attributeAddress, wideAddress, wideAttribute, loresAddress, bitOf};
 use crate::modes::Mode;
+use lists::wide16;
 
 // Column c of 32 of a row of 192.
 pub fn byte_address(y: usize, column: usize) -> usize
@@ -75,9 +76,9 @@ pub fn lores_address(row: usize, column: usize) -> usize
     if 48 <= row { at + 0x800 } else { at }
 }
 
-// A pixel of a byte; the leftmost is bit 7.
-pub fn bit_of(b: u8, x: usize) -> u8
+// A pixel of a byte; the leftmost is bit 7. As wide as a dot, so that eight dots are chosen at once.
+pub fn bit_of(b: u8, x: usize) -> u16
     ensures { λ r. ⌜ r ≡ bitOf b x ⌝ }
 {
-    (b >> (7 - x % 8)) % 2
+    (wide16(b) >> (7 - x % 8)) % 2
 }

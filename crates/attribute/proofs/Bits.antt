@@ -1,18 +1,24 @@
--- A bit's colour, where it shows ink and where it shows paper.
+-- The dot of a bit is the ink's or the paper's, by whether the two have changed places.
 use Prim.Native.Nat.{ℕ}
-use mathlib.Core.Path.{_≡_, ap, _∙_}
+use mathlib.Core.Path.{_≡_}
 use mathlib.Core.List.{List}
-use mathlib.Core.Bool.{true, false}
-use Rattle.lists.proofs.Cond.{if-true, if-false}
-use Rattle.attribute.specs.Index.{inkIndex, paperIndex, inkShown, bitIndex}
-use Rattle.attribute.specs.Colours.{colourAt, groundColour, bitColour}
+use mathlib.Core.Bool.{Bool, true, false}
+use Rattle.surface.specs.Dots.{shown}
+use Rattle.attribute.specs.Index.{inkIndex, paperIndex, swapped, inkShown, bitIndex}
+use Rattle.attribute.specs.Colours.{colourAt, groundColour, bitColour, bitDot}
 use Rattle.attribute.specs.declared.schemes.Colours.{Colours}
 
-module _ (l : Colours) (pal plus : List ℕ) (a bit : ℕ) where
-  pub as-ink : inkShown (l .scheme) (l .swap) a bit ≡ true → bitColour l pal plus a bit ≡ colourAt (l .scheme) pal plus (inkIndex (l .scheme) (l .mask) a)
-  unfolding bitColour bitIndex
-  as-ink e = if-true _ _ _ e ∙ ap (colourAt (l .scheme) pal plus) (if-true _ _ _ e)
+module _ (l : Colours) (pal plus : List ℕ) (a : ℕ) where
+  abbrev inkDot : ℕ
+  inkDot = shown (l .clear) (colourAt (l .scheme) pal plus (inkIndex (l .scheme) (l .mask) a))
 
-  pub as-paper : inkShown (l .scheme) (l .swap) a bit ≡ false → bitColour l pal plus a bit ≡ groundColour l pal plus (paperIndex (l .scheme) (l .mask) a)
-  unfolding bitColour bitIndex
-  as-paper e = if-false _ _ _ e ∙ ap (groundColour l pal plus) (if-false _ _ _ e)
+  abbrev paperDot : ℕ
+  paperDot = shown (l .clear) (groundColour l pal plus (paperIndex (l .scheme) (l .mask) a))
+
+  pub exchanged : swapped (l .scheme) (l .swap) a ≡ true → (paperDot ≡ bitDot l pal plus a 1) × (inkDot ≡ bitDot l pal plus a 0)
+  unfolding bitDot bitColour bitIndex inkShown
+  exchanged e = (rw e, rw e)
+
+  pub in-place : swapped (l .scheme) (l .swap) a ≡ false → (inkDot ≡ bitDot l pal plus a 1) × (paperDot ≡ bitDot l pal plus a 0)
+  unfolding bitDot bitColour bitIndex inkShown
+  in-place e = (rw e, rw e)

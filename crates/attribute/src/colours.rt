@@ -4,12 +4,12 @@ ghost use mathlib.Core.Bool.{true, false};
 ghost use Prim.Native.Nat.{_≤_, _<_};
 ghost use Rattle.state.specs.Lawful.{isMask};
 ghost use Rattle.attribute.specs.Index.{paperIndex, paperless};
-ghost use Rattle.attribute.specs.Colours.{colourAt, groundColour, bitColour, bitDot, borderNumber, borderDot};
+ghost use Rattle.attribute.specs.Colours.{colourAt, groundColour, bitDot, borderNumber, borderDot};
 ghost use Rattle.attribute.specs.Bounds.{indices, Solid};
 use crate::index::border_index;
 use crate::index::ink_index;
-use crate::index::is_ink;
 use crate::index::is_paperless;
+use crate::index::is_swapped;
 use crate::index::paper_index;
 use crate::index::wide_border_index;
 use crate::schemes::Colours;
@@ -38,27 +38,32 @@ fn paper_colour(l: Colours, pal: &[u16; 256], plus: &[u8; 64], a: u8) -> u16
     }
 }
 
-// Both colours are read and one is chosen, so that a flash here and there along a row costs no jump.
-fn bit_colour(l: Colours, pal: &[u16; 256], plus: &[u8; 64], a: u8, bit: u8) -> u16
-    requires { ⌜ Solid l ⌝ }
-    ensures { λ r. ⌜ r ≡ bitColour l (now (pal .entry)) (now (plus .entry)) a bit ⌝ }
-{
-    let k = l.scheme;
-    let ink = colour_at(k, pal, plus, ink_index(k, l.mask, a));
-    let paper = paper_colour(l, pal, plus, a);
-    if is_ink(k, l.swap, a, bit) {
-        ink
-    } else {
-        paper
-    }
+// The dots of an attribute, before the clip: of a bit that is 1, and of one that is 0.
+pub struct Dots {
+    pub one: u16,
+    pub none: u16,
 }
 
-// The dot of a bit of the bitmap, before the clip.
-pub fn bit_dot(l: Colours, pal: &[u16; 256], plus: &[u8; 64], a: u8, bit: u8) -> u16
+// Both colours are read once for all bits under the attribute.
+pub fn bit_dots(l: Colours, pal: &[u16; 256], plus: &[u8; 64], a: u8) -> Dots
     requires { ⌜ Solid l ⌝ }
-    ensures { λ r. ⌜ r ≡ bitDot l (now (pal .entry)) (now (plus .entry)) a bit ⌝ }
+    ensures { λ r. ⌜ (r .one ≡ bitDot l (now (pal .entry)) (now (plus .entry)) a 1) × (r .none ≡ bitDot l (now (pal .entry)) (now (plus .entry)) a 0) ⌝ }
 {
-    surface::show(l.clear, bit_colour(l, pal, plus, a, bit))
+    let k = l.scheme;
+    let i = ink_index(k, l.mask, a);
+    let ink = surface::show(l.clear, colour_at(k, pal, plus, i));
+    let paper = surface::show(l.clear, paper_colour(l, pal, plus, a));
+    if is_swapped(k, l.swap, a) {
+        Dots {
+            one: paper,
+            none: ink,
+        }
+    } else {
+        Dots {
+            one: ink,
+            none: paper,
+        }
+    }
 }
 
 fn border_number(k: Scheme, mask: u8, mode6: bool, a: u8, border: u8) -> usize

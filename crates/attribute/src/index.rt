@@ -3,7 +3,7 @@ ghost use mathlib.Core.Path.{_≡_};
 ghost use mathlib.Core.Bool.{true, false};
 ghost use Prim.Native.Nat.{_+_, _/_, _^_, _≤_, _<_};
 ghost use Rattle.state.specs.Lawful.{isMask};
-ghost use Rattle.attribute.specs.Index.{inkIndex, paperIndex, borderIndex, wideBorderIndex, paperless, swapped, inkShown};
+ghost use Rattle.attribute.specs.Index.{inkIndex, paperIndex, borderIndex, wideBorderIndex, paperless, swapped};
 ghost use Rattle.attribute.specs.Bounds.{indices};
 use crate::schemes::Scheme;
 use lists::wide;
@@ -94,23 +94,13 @@ pub fn is_paperless(k: Scheme, mask: u8) -> bool
     }
 }
 
-fn is_swapped(k: Scheme, swap: bool, a: u8) -> bool
+// In this frame ink and paper of the attribute have changed places.
+pub fn is_swapped(k: Scheme, swap: bool, a: u8) -> bool
     ensures { λ r. ⌜ r ≡ swapped k swap a ⌝ }
 {
     match k {
         Scheme::Plain => (128 <= a) & swap,
         Scheme::Next => false,
         Scheme::Plus => false,
-    }
-}
-
-// Whether a bit of the bitmap shows the ink of its attribute.
-pub fn is_ink(k: Scheme, swap: bool, a: u8, bit: u8) -> bool
-    ensures { λ r. ⌜ r ≡ inkShown k swap a bit ⌝ }
-{
-    if is_swapped(k, swap, a) {
-        bit != 1
-    } else {
-        bit == 1
     }
 }

@@ -3,11 +3,11 @@ mod colours;
 mod index;
 mod schemes;
 
-pub use colours::bit_dot;
+pub use colours::Dots;
+pub use colours::bit_dots;
 pub use colours::border_dot;
 pub use index::border_index;
 pub use index::ink_index;
-pub use index::is_ink;
 pub use index::paper_index;
 pub use index::wide_border_index;
 pub use schemes::Colours;

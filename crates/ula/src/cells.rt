@@ -62,9 +62,8 @@ pub fn pixel_cell(
     let from = bits + column;
     let a = bank[at];
     let b = bank[from];
-    let one = attribute::bit_dot(l, pal, plus, a, 1);
-    let none = attribute::bit_dot(l, pal, plus, a, 0);
-    pixels(b, one, none, out);
+    let d = attribute::bit_dots(l, pal, plus, a);
+    pixels(b, d.one, d.none, out);
 }
 
 // Column c of 64 of mode 6, whose two dots are the same all along the row.

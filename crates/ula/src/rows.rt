@@ -108,9 +108,8 @@ fn mode_row(p: Place, l: Colours, pal: &[u16; 256], plus: &[u8; 64], bank: &[u8]
         lores_row(p, l, pal, bank, out);
     } else {
         if address::is_wide(mode) {
-            let one = attribute::bit_dot(l, pal, plus, p.attribute, 1);
-            let none = attribute::bit_dot(l, pal, plus, p.attribute, 0);
-            wide_row(p, one, none, bank, out);
+            let d = attribute::bit_dots(l, pal, plus, p.attribute);
+            wide_row(p, d.one, d.none, bank, out);
         } else {
             pixel_row(p, l, pal, plus, bank, out);
         }

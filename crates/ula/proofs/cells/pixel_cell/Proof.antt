@@ -20,11 +20,8 @@ shared-slice-read-a c = search needs
 shared-slice-read-b : tie.Need-shared-slice-read-b
 shared-slice-read-b c = search needs
 
-bit-dot-requires : tie.Need-bit-dot-requires
-bit-dot-requires c κs = search needs
-
-bit-dot-requires-2 : tie.Need-bit-dot-requires-2
-bit-dot-requires-2 c κs = search needs
+bit-dots-requires : tie.Need-bit-dots-requires
+bit-dots-requires c κs = search needs
 
 pixels-requires : tie.Need-pixels-requires
 pixels-requires c κs = search needs
@@ -33,7 +30,7 @@ same-length : tie.Need-same-length
 same-length c = search needs
 
 returns : tie.Need-returns
-returns c = let s = c .before .before .before .before .before .before .before .before .before .before .before in
+returns c = let s = c .before .before .before .before .before .before .before .before .before .before in
     c .before .before .pixels .ensures ∙ pixel-fill _ _ _ _ _ (s .args .bits) (s .args .cells) _ _ _ _ _ (search needs) (search needs) (s .pre .1) (s .pre .2) refl refl (search needs) (search needs)
 
 pub pixel-cell-spec : {M : Type 1} → statement M
@@ -45,8 +42,7 @@ pixel-cell-spec =
     add-from
     shared-slice-read-a
     shared-slice-read-b
-    bit-dot-requires
-    bit-dot-requires-2
+    bit-dots-requires
     pixels-requires
     same-length
     returns)

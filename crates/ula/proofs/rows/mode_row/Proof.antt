@@ -15,11 +15,8 @@ lores-row-requires c κs = search needs
 is-wide-requires : tie.Need-is-wide-requires
 is-wide-requires c κs = search needs
 
-bit-dot-requires : tie.Need-bit-dot-requires
-bit-dot-requires c κs = search needs
-
-bit-dot-requires-2 : tie.Need-bit-dot-requires-2
-bit-dot-requires-2 c κs = search needs
+bit-dots-requires : tie.Need-bit-dots-requires
+bit-dots-requires c κs = search needs
 
 wide-row-requires : tie.Need-wide-row-requires
 wide-row-requires c κs = search needs
@@ -39,9 +36,9 @@ same-length-2 c = search needs
 
 returns-2 : tie.Need-returns-2
 returns-2 c = let d = c .before .before .before .before in
-    let w = d .before .before in
+    let w = d .before in
     let b = w .before .before in
-    c .before .before .wide-row .ensures ∙ wide-dots _ _ _ _ _ _ _ (d .before .bit-dot .ensures) (d .bit-dot2 .ensures)
+    c .before .before .wide-row .ensures ∙ wide-dots _ _ _ _ _ _ _ (d .bit-dots .ensures .0) (d .bit-dots .ensures .1)
     ∙ shows-wide _ _ _ _ _ (sym (b .before .is-lores .ensures) ∙ b .if1 .left) (sym (w .before .is-wide .ensures) ∙ w .if2 .taken)
 
 same-length-3 : tie.Need-same-length-3
@@ -59,8 +56,7 @@ mode-row-spec =
     is-lores-requires
     lores-row-requires
     is-wide-requires
-    bit-dot-requires
-    bit-dot-requires-2
+    bit-dots-requires
     wide-row-requires
     pixel-row-requires
     same-length
