@@ -2,6 +2,15 @@
 mod reading;
 mod writing;
 
+pub use reading::clip_at;
+pub use reading::colours_at;
+pub use reading::is_palette;
+pub use reading::palette_at;
+pub use reading::plus_at;
+pub use reading::ports_at;
 pub use reading::state_at;
+pub use reading::tiles_at;
+pub use reading::turns_at;
+pub use reading::ula_at;
 pub use writing::put_registers;
 pub use writing::put_tables;

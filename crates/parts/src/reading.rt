@@ -2,8 +2,10 @@
 ghost use mathlib.Core.Path.{_≡_};
 ghost use Prim.Native.Nat.{_+_, _≤_};
 ghost use lib.ListN.{length};
+ghost use Rattle.state.specs.Lawful.{allColours};
 ghost use Rattle.layout.specs.Fields.{byte, pair, rowAt};
 ghost use Rattle.layout.specs.Record.{recordLength, stateIn};
+ghost use Rattle.parts.specs.Bounds.{Pairs};
 use lists::wide16;
 use state::Palette;
 use state::Ports;
@@ -12,21 +14,54 @@ use state::Tiles;
 use state::Turns;
 use state::Ula;
 
-fn colours_at(b: &[u8], at: usize) -> [u16; 256]
+// The 256 pairs of bytes from a place on as numbers, the first byte low: so a pair is read as it lies in memory, many at once.
+fn pairs_at(b: &[u8], at: usize) -> [u16; 256]
     requires { ⌜ at + 512 ≤ length (now b) ⌝ }
-    ensures { λ r. ⌜ r ≡ rowAt pair 256 (now (b .entry)) at ⌝ }
+    ensures { λ r. ⌜ Pairs (now (b .entry)) at r 256 ⌝ }
 {
-    let mut colours = [0u16; 256];
+    let mut pairs = [0u16; 256];
     let mut i = 0;
     while i < 256 {
         let o = at + 2 * i;
-        colours[i] = wide16(b[o]) * 256 + wide16(b[o + 1]);
+        pairs[i] = wide16(b[o]) + wide16(b[o + 1]) * 256;
+        i += 1;
+    }
+    pairs
+}
+
+// The palette at a place.
+pub fn colours_at(b: &[u8], at: usize) -> [u16; 256]
+    requires { ⌜ at + 512 ≤ length (now b) ⌝ }
+    ensures { λ r. ⌜ r ≡ rowAt pair 256 (now (b .entry)) at ⌝ }
+{
+    let pairs = pairs_at(b, at);
+    let mut colours = [0u16; 256];
+    let mut i = 0;
+    while i < 256 {
+        let v = pairs[i];
+        colours[i] = v % 256 * 256 + v / 256;
         i += 1;
     }
     colours
 }
 
-fn plus_at(b: &[u8]) -> [u8; 64]
+// Every colour of the palette at a place is at most 511, which its high byte tells. There is no early exit, so that the
+// loop can be vectorised.
+pub fn is_palette(b: &[u8], at: usize) -> bool
+    requires { ⌜ at + 512 ≤ length (now b) ⌝ }
+    ensures { λ r. ⌜ r ≡ allColours (rowAt pair 256 (now (b .entry)) at) ⌝ }
+{
+    let pairs = pairs_at(b, at);
+    let mut ok = true;
+    let mut i = 0;
+    while i < 256 {
+        ok = ok & (pairs[i] % 256 <= 1);
+        i += 1;
+    }
+    ok
+}
+
+pub fn plus_at(b: &[u8]) -> [u8; 64]
     requires { ⌜ 102 ≤ length (now b) ⌝ }
     ensures { λ r. ⌜ r ≡ stateIn (now (b .entry)) .plus ⌝ }
 {
@@ -39,14 +74,14 @@ fn plus_at(b: &[u8]) -> [u8; 64]
     registers
 }
 
-fn clip_at(b: &[u8], at: usize) -> [u8; 4]
+pub fn clip_at(b: &[u8], at: usize) -> [u8; 4]
     requires { ⌜ at + 4 ≤ length (now b) ⌝ }
     ensures { λ r. ⌜ r ≡ rowAt byte 4 (now (b .entry)) at ⌝ }
 {
     [b[at], b[at + 1], b[at + 2], b[at + 3]]
 }
 
-fn ula_at(b: &[u8]) -> Ula
+pub fn ula_at(b: &[u8]) -> Ula
     requires { ⌜ 102 ≤ length (now b) ⌝ }
     ensures { λ r. ⌜ r ≡ stateIn (now (b .entry)) .ula ⌝ }
 {
@@ -61,7 +96,7 @@ fn ula_at(b: &[u8]) -> Ula
     }
 }
 
-fn tiles_at(b: &[u8]) -> Tiles
+pub fn tiles_at(b: &[u8]) -> Tiles
     requires { ⌜ 102 ≤ length (now b) ⌝ }
     ensures { λ r. ⌜ r ≡ stateIn (now (b .entry)) .tiles ⌝ }
 {
@@ -77,7 +112,7 @@ fn tiles_at(b: &[u8]) -> Tiles
     }
 }
 
-fn palette_at(b: &[u8]) -> Palette
+pub fn palette_at(b: &[u8]) -> Palette
     requires { ⌜ 102 ≤ length (now b) ⌝ }
     ensures { λ r. ⌜ r ≡ stateIn (now (b .entry)) .palette ⌝ }
 {
@@ -90,7 +125,7 @@ fn palette_at(b: &[u8]) -> Palette
     }
 }
 
-fn turns_at(b: &[u8]) -> Turns
+pub fn turns_at(b: &[u8]) -> Turns
     requires { ⌜ 102 ≤ length (now b) ⌝ }
     ensures { λ r. ⌜ r ≡ stateIn (now (b .entry)) .turns ⌝ }
 {
@@ -100,7 +135,7 @@ fn turns_at(b: &[u8]) -> Turns
     }
 }
 
-fn ports_at(b: &[u8]) -> Ports
+pub fn ports_at(b: &[u8]) -> Ports
     requires { ⌜ 102 ≤ length (now b) ⌝ }
     ensures { λ r. ⌜ r ≡ stateIn (now (b .entry)) .ports ⌝ }
 {

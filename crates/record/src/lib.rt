@@ -3,4 +3,5 @@ mod reading;
 mod writing;
 
 pub use reading::read_record;
+pub use reading::record_reply;
 pub use writing::write_record;

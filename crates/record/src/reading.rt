@@ -1,15 +1,16 @@
 // Record reading, judged in three stages: the number of bytes following, the version, the fields.
 ghost use mathlib.Core.Path.{_≡_};
+ghost use mathlib.Core.Bool.{_&&_};
 ghost use Prim.Native.Nat.{_<_};
 ghost use lib.ListN.{length};
+ghost use Rattle.state.specs.Lawful.{allColours};
 ghost use Rattle.layout.specs.Layout.{layout};
-ghost use Rattle.layout.specs.Record.{recordLength, version, counted, versioned, sound, stateIn, notRecord, readFields, readRecord};
+ghost use Rattle.layout.specs.Record.{recordLength, version, counted, versioned, sound, stateIn, notRecord, readRecord};
 use lists::wide;
 use parts::state_at;
 use reply::Reply;
 use state::Answer;
-use state::State;
-use state::lawful;
+use state::lawful_registers;
 use state::reset;
 
 fn has_count(b: &[u8]) -> bool
@@ -29,14 +30,34 @@ fn has_version(b: &[u8]) -> bool
     b[2] == 1
 }
 
-// The two flags are judged as bytes, since the state keeps them as truth values.
-fn has_bounds(b: &[u8], s: State) -> bool
-    requires { ⌜ (length (now b) ≡ recordLength) × (s ≡ stateIn (now b)) ⌝ }
+fn has_palettes(b: &[u8]) -> bool
+    requires { ⌜ length (now b) ≡ recordLength ⌝ }
+    ensures { λ r. ⌜ r ≡ (allColours (stateIn (now (b .entry)) .ulafirst) && allColours (stateIn (now (b .entry)) .ulasecond)
+        && allColours (stateIn (now (b .entry)) .tilefirst) && allColours (stateIn (now (b .entry)) .tilesecond)) ⌝ }
+{
+    let first = parts::is_palette(b, 102);
+    let second = parts::is_palette(b, 614);
+    let third = parts::is_palette(b, 1126);
+    let fourth = parts::is_palette(b, 1638);
+    first & second & third & fourth
+}
+
+// The fields are judged where they stand, and no state is made. The two flags are judged as bytes, since a state keeps them
+// as truth values.
+fn has_bounds(b: &[u8]) -> bool
+    requires { ⌜ length (now b) ≡ recordLength ⌝ }
     ensures { λ r. ⌜ r ≡ sound layout (now (b .entry)) ⌝ }
 {
     let held = b[31] <= 1;
     let plus = b[36] <= 1;
-    held & plus & lawful(s)
+    let u = parts::ula_at(b);
+    let p = parts::palette_at(b);
+    let t = parts::tiles_at(b);
+    let turns = parts::turns_at(b);
+    let ports = parts::ports_at(b);
+    let registers = lawful_registers(u, p, t, turns, ports);
+    let palettes = has_palettes(b);
+    held & plus & (registers & palettes)
 }
 
 fn refusal() -> Answer
@@ -49,19 +70,25 @@ fn refusal() -> Answer
     }
 }
 
-// The fields of bytes that have the number and the version.
-fn read_fields(b: &[u8]) -> Answer
-    requires { ⌜ length (now b) ≡ recordLength ⌝ }
-    ensures { λ r. ⌜ r ≡ readFields (now (b .entry)) ⌝ }
+// The three stages: each asks for what the one before it has shown.
+fn is_record(b: &[u8]) -> bool
+    ensures { λ r. ⌜ r ≡ (counted layout (now (b .entry)) && (versioned version (now (b .entry)) && sound layout (now (b .entry)))) ⌝ }
 {
-    let state = state_at(b);
-    if has_bounds(b, state) {
-        Answer {
-            reply: Reply::Done,
-            state,
-        }
+    if has_count(b) {
+        has_version(b) & has_bounds(b)
     } else {
-        refusal()
+        false
+    }
+}
+
+// What `read_record` replies, without the state.
+pub fn record_reply(bytes: &[u8]) -> Reply
+    ensures { λ r. ⌜ r ≡ readRecord (now (bytes .entry)) .reply ⌝ }
+{
+    if is_record(bytes) {
+        Reply::Done
+    } else {
+        Reply::NotRecord
     }
 }
 
@@ -69,11 +96,13 @@ fn read_fields(b: &[u8]) -> Answer
 pub fn read_record(bytes: &[u8]) -> Answer
     ensures { λ r. ⌜ r ≡ readRecord (now (bytes .entry)) ⌝ }
 {
-    if has_count(bytes) {
-        if has_version(bytes) {
-            return read_fields(bytes);
+    if is_record(bytes) {
+        let state = state_at(bytes);
+        Answer {
+            reply: Reply::Done,
+            state,
         }
-        return refusal();
+    } else {
+        refusal()
     }
-    refusal()
 }

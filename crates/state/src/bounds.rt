@@ -1,5 +1,6 @@
 // What is lawful. A group's test is one chain of `&` in the order of its definition, so that it is equal to it by computation.
 ghost use mathlib.Core.Path.{_≡_};
+ghost use mathlib.Core.Bool.{_&&_};
 ghost use Rattle.state.specs.Lawful.{isMask, isChoice, lawfulUla, lawfulPalette, lawfulTiles, lawfulTurns, lawfulPorts, allColours, lawfulState};
 use crate::Palette;
 use crate::Ports;
@@ -72,14 +73,17 @@ fn all_colours(p: &[u16]) -> bool
     ok
 }
 
+// All but the colours.
+pub fn lawful_registers(u: Ula, p: Palette, t: Tiles, turns: Turns, ports: Ports) -> bool
+    ensures { λ r. ⌜ r ≡ (lawfulUla u && lawfulPalette p && lawfulTiles t && lawfulTurns turns && lawfulPorts ports) ⌝ }
+{
+    lawful_ula(u) & lawful_palette(p) & lawful_tiles(t) & lawful_turns(turns) & lawful_ports(ports)
+}
+
 pub fn lawful(s: State) -> bool
     ensures { λ r. ⌜ r ≡ lawfulState s ⌝ }
 {
-    let registers = lawful_ula(s.ula)
-        & lawful_palette(s.palette)
-        & lawful_tiles(s.tiles)
-        & lawful_turns(s.turns)
-        & lawful_ports(s.ports);
+    let registers = lawful_registers(s.ula, s.palette, s.tiles, s.turns, s.ports);
     let a = all_colours(&s.ulafirst);
     let b = all_colours(&s.ulasecond);
     let c = all_colours(&s.tilefirst);

@@ -12,6 +12,7 @@ pub use bits::ula_on;
 pub use bounds::is_choice;
 pub use bounds::is_mask;
 pub use bounds::lawful;
+pub use bounds::lawful_registers;
 pub use frame::next_frame;
 pub use initial::reset;
 use reply::Reply;

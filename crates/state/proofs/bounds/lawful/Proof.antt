@@ -4,20 +4,8 @@ use borrow.Author.Needs.{needs}
 use Rattle.state.proofs.bounds.lawful.Statement.{statement}
 use Rattle.state.proofs.bounds.lawful.Tie as tie
 
-lawful-ula-requires : tie.Need-lawful-ula-requires
-lawful-ula-requires c κs = search needs
-
-lawful-palette-requires : tie.Need-lawful-palette-requires
-lawful-palette-requires c κs = search needs
-
-lawful-tiles-requires : tie.Need-lawful-tiles-requires
-lawful-tiles-requires c κs = search needs
-
-lawful-turns-requires : tie.Need-lawful-turns-requires
-lawful-turns-requires c κs = search needs
-
-lawful-ports-requires : tie.Need-lawful-ports-requires
-lawful-ports-requires c κs = search needs
+lawful-registers-requires : tie.Need-lawful-registers-requires
+lawful-registers-requires c κs = search needs
 
 all-colours-requires : tie.Need-all-colours-requires
 all-colours-requires c κs = search needs
@@ -39,11 +27,7 @@ pub lawful-spec : {M : Type 1} → statement M
 lawful-spec =
     tie.close
     (tie.spec
-    lawful-ula-requires
-    lawful-palette-requires
-    lawful-tiles-requires
-    lawful-turns-requires
-    lawful-ports-requires
+    lawful-registers-requires
     all-colours-requires
     all-colours-requires-2
     all-colours-requires-3
