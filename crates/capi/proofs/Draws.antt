@@ -1,19 +1,39 @@
--- The two exits of a drawing by a lent record: `held` is what reading the record answered, `early` what refuses before the
--- state is judged, k its number.
+-- Drawing by a lent record: what a record that is not refused has met, the answer of a state that is held, and the two exits of
+-- the call. `held` is the reply to the record, `early` what refuses before the state is judged, k its number.
 use Prim.Native.Nat.{ℕ}
-use mathlib.Core.Path.{_≡_, sym, ap, _∙_}
+use mathlib.Core.Path.{_≡_, sym, ap, ap₂, _∙_}
 use mathlib.Core.List.{List}
 use mathlib.Core.Bool.{true, false}
 use lib.ListN.{length}
 use borrow.Author.Tests.{eq-eqb, ne-eqb}
 use Rattle.reply.specs.declared.Reply.{Reply}
+use Rattle.reply.specs.declared.Reply.the-variants.{Done}
 use Rattle.reply.specs.Reply.{replyNumber, isDone}
 use Rattle.state.specs.declared.State.{State}
 use Rattle.state.specs.declared.Answer.{Answer}
-use Rattle.layout.specs.Record.{readRecord}
+use Rattle.state.specs.declared.Ula.{Ula}
+use Rattle.state.specs.declared.Tiles.{Tiles}
+use Rattle.state.specs.declared.Palette.{Palette}
+use Rattle.state.specs.declared.Ports.{Ports}
+use Rattle.surface.specs.Lines.{isLine}
+use Rattle.surface.specs.declared.lines.LineNumber.{LineNumber}
+use Rattle.layout.specs.Record.{readRecord, stateIn}
+use Rattle.layout.proofs.Claims.{long, answer, state-lawful}
 use Rattle.line.specs.Lines.{drawnLine}
-use Rattle.line.specs.Replies.{firstOf, drawReply, drawnIf}
+use Rattle.line.specs.Replies.{lineReply, lengthsReply, stateReply, firstOf, drawReply, drawnIf}
+use Rattle.line.proofs.Exits.{both-done, number-done, line-met, lengths-met, state-alone}
+use Rattle.capi.specs.Bounds.{Held}
 use Rattle.capi.specs.Drawn.{earlyReply, numbered, lentDrawReply, lentDrawn}
+
+-- what a drawing asks for that is not refused early
+abbrev Met : List ℕ → LineNumber → ℕ → ℕ → ℕ → Type 0
+Met b line ula tile dots = (Held b) × (isLine line ≡ true) × (ula ≡ 16384) × (tile ≡ 16384) × (dots ≡ 640)
+
+pub held-reply : (b : List ℕ) (line : LineNumber) (ula tile dots : ℕ) (r : Reply) (u : Ula) (t : Tiles) (p : Palette) (o : Ports) → Met b line ula tile dots
+    → r ≡ stateReply u t p o → u ≡ stateIn b .ula → t ≡ stateIn b .tiles → p ≡ stateIn b .palette → o ≡ stateIn b .ports
+    → r ≡ drawReply line ula tile dots (stateIn b)
+held-reply b line ula tile dots r u t p o m e eu et ep eo =
+    e ∙ rw (eu, et, ep, eo) (sym (state-alone line ula tile dots (stateIn b) (m .1) (m .2) (m .3) (m .4) (m .0 .lawful)))
 
 first-done : (a d : Reply) → isDone a ≡ true → firstOf a d ≡ d
 unfolding firstOf
@@ -27,46 +47,48 @@ left-line : (r : Reply) (drawn out : List ℕ) → isDone r ≡ false → out �
 unfolding drawnIf
 left-line r drawn out t = rw t
 
-module _ (n : ℕ) (ula tile dots b : List ℕ) where
-  abbrev early-of : Answer → Reply
-  early-of a = earlyReply (numbered n) (length ula) (length tile) (length dots) (a .reply)
+module _ (n : ℕ) (ula tile dots b : List ℕ) (held : Reply) (h : held ≡ readRecord b .reply)
+    (early : Reply) (e : early ≡ earlyReply (numbered n) (length ula) (length tile) (length dots) held) (k : ℕ) (ke : k ≡ replyNumber early) where
+  pub met : k ≡ 0 → Met b (numbered n) (length ula) (length tile) (length dots)
+  met z =
+      let d = sym e ∙ number-done early (sym ke ∙ z) in
+      let l = both-done (lineReply (numbered n)) _ d in
+      let m = both-done (lengthsReply (length ula) (length tile) (length dots)) held (l .1) in
+      let q = lengths-met (length ula) (length tile) (length dots) (m .0) in
+      let r = sym h ∙ m .1 in
+      (record { long = long b r; lawful = state-lawful b r }, line-met (numbered n) (l .0), q .0, q .1, q .2)
 
-  abbrev reply-of : State → Reply
-  reply-of s = drawReply (numbered n) (length ula) (length tile) (length dots) s
+  state-is : k ≡ 0 → readRecord b .state ≡ stateIn b
+  state-is z =
+      let l = both-done (lineReply (numbered n)) _ (sym e ∙ number-done early (sym ke ∙ z)) in
+      let m = both-done (lengthsReply (length ula) (length tile) (length dots)) held (l .1) in
+      ap (λ (a : Answer). a .state) (answer b (sym h ∙ m .1))
 
-  abbrev dots-of : State → List ℕ
-  dots-of s = drawnIf (reply-of s) (drawnLine s ula tile (numbered n)) dots
+  early-is : early ≡ earlyReply (numbered n) (length ula) (length tile) (length dots) (readRecord b .reply)
+  early-is = e ∙ ap (earlyReply (numbered n) (length ula) (length tile) (length dots)) h
 
-  module _ (held : Answer) (h : held ≡ readRecord b) (early : Reply) (e : early ≡ early-of held) (k : ℕ) (ke : k ≡ replyNumber early) where
-    early-is : early ≡ early-of (readRecord b)
-    early-is = e ∙ ap early-of h
+  done-reply : k ≡ 0 → lentDrawReply n ula tile dots b ≡ drawReply (numbered n) (length ula) (length tile) (length dots) (stateIn b)
+  unfolding lentDrawReply
+  done-reply z =
+      first-done _ _ (eq-eqb _ _ (ap replyNumber (sym early-is) ∙ sym ke ∙ z))
+      ∙ ap (drawReply (numbered n) (length ula) (length tile) (length dots)) (state-is z)
 
-    done-reply : k ≡ 0 → lentDrawReply n ula tile dots b ≡ reply-of (held .state)
-    unfolding lentDrawReply
-    done-reply z =
-        first-done (early-of (readRecord b)) (reply-of (readRecord b .state)) (eq-eqb _ _ (ap replyNumber (sym early-is) ∙ sym ke ∙ z))
-        ∙ ap (λ (a : Answer). reply-of (a .state)) (sym h)
+  -- the record and the lengths are good: the drawing's own answer
+  pub drawn : (q : Reply) (r : ℕ) (after : List ℕ) → k ≡ 0 → q ≡ drawReply (numbered n) (length ula) (length tile) (length dots) (stateIn b)
+      → after ≡ drawnIf q (drawnLine (stateIn b) ula tile (numbered n)) dots → r ≡ replyNumber q
+      → (r ≡ replyNumber (lentDrawReply n ula tile dots b)) × (after ≡ lentDrawn n ula tile dots b)
+  unfolding lentDrawn
+  drawn q r after z p d s =
+      let t = p ∙ sym (done-reply z) in
+      (s ∙ ap replyNumber t, d ∙ ap₂ (λ (x : Reply) (v : State). drawnIf x (drawnLine v ula tile (numbered n)) dots) t (sym (state-is z)))
 
-    -- the record and the lengths are good: the drawing's own answer
-    pub drawn : (q : Reply) (r : ℕ) (after : List ℕ) → k ≡ 0 → q ≡ reply-of (held .state) → after ≡ dots-of (held .state) → r ≡ replyNumber q
-        → (r ≡ replyNumber (lentDrawReply n ula tile dots b)) × (after ≡ lentDrawn n ula tile dots b)
-    unfolding lentDrawn
-    drawn q r after z p d s =
-        let t = done-reply z in (
-          s ∙ ap replyNumber (p ∙ sym t),
-          d ∙ ap (λ (x : Reply). drawnIf x (drawnLine (held .state) ula tile (numbered n)) dots) (sym t)
-              ∙ ap (λ (a : Answer). drawnIf (lentDrawReply n ula tile dots b) (drawnLine (a .state) ula tile (numbered n)) dots) h,
-        )
+  refused-reply : (k ≡ 0 → ⊥) → lentDrawReply n ula tile dots b ≡ early
+  unfolding lentDrawReply
+  refused-reply z = first-refused _ _ (ne-eqb _ _ (λ q. z (ke ∙ ap replyNumber early-is ∙ q))) ∙ sym early-is
 
-    refused-reply : (k ≡ 0 → ⊥) → lentDrawReply n ula tile dots b ≡ early
-    unfolding lentDrawReply
-    refused-reply z =
-        first-refused (early-of (readRecord b)) (reply-of (readRecord b .state)) (ne-eqb _ _ (λ q. z (ke ∙ ap replyNumber early-is ∙ q)))
-        ∙ sym early-is
-
-    -- refused early: the line as it was
-    pub undrawn : (k ≡ 0 → ⊥) → (k ≡ replyNumber (lentDrawReply n ula tile dots b)) × (dots ≡ lentDrawn n ula tile dots b)
-    unfolding lentDrawn
-    undrawn z =
-        let t = refused-reply z in
-        (ke ∙ ap replyNumber (sym t), left-line (lentDrawReply n ula tile dots b) _ dots (ne-eqb _ _ (λ q. z (ke ∙ ap replyNumber (sym t) ∙ q))))
+  -- refused early: the line as it was
+  pub undrawn : (k ≡ 0 → ⊥) → (k ≡ replyNumber (lentDrawReply n ula tile dots b)) × (dots ≡ lentDrawn n ula tile dots b)
+  unfolding lentDrawn
+  undrawn z =
+      let t = refused-reply z in
+      (ke ∙ ap replyNumber (sym t), left-line (lentDrawReply n ula tile dots b) _ dots (ne-eqb _ _ (λ q. z (ke ∙ ap replyNumber (sym t) ∙ q))))

@@ -1,3 +1,4 @@
+mod Shown
 mod Exits
 mod Draws
 mod Counts

@@ -1,3 +1,4 @@
 pub mod Lent
 pub mod Drawn
 pub mod Packed
+pub mod Bounds

@@ -5,6 +5,7 @@ ghost use Rattle.reply.specs.Reply.{replyNumber};
 ghost use Rattle.colour.specs.Screen.{screenAnswer};
 ghost use Rattle.capi.specs.Packed.{LentPacked};
 ghost use Rattle.capi.specs.Drawn.{lentDrawReply, lentDrawn, earlyReply};
+use crate::drawing::draw_held;
 use line::first_of;
 use reply::Reply;
 use reply::number;
@@ -40,13 +41,11 @@ pub extern "C" fn narephon_draw(
         × (now (dots .exit) ≡ lentDrawn line (now (ula .entry)) (now (tile .entry)) (now (dots .entry)) (now (lent .entry))) ⌝ }
 {
     let l = LineNumber(line as usize);
-    let held = record::read_record(lent);
-    let r = held.reply;
-    let early = early_reply(l, ula.len(), tile.len(), dots.len(), r);
+    let held = record::record_reply(lent);
+    let early = early_reply(l, ula.len(), tile.len(), dots.len(), held);
     let n = number(early);
     if n == 0 {
-        let s = held.state;
-        let q = line::draw(l, ula, tile, s, dots);
+        let q = draw_held(lent, ula, tile, l, dots);
         number(q)
     } else {
         n

@@ -114,7 +114,8 @@ state-sized b = record {
   tilesecond = length-tab _ 256;
 }
 
-module _ (b : List ℕ) (y : Bytes b) (e : readRecord b .reply ≡ Done) where
+-- what bytes that are read have met
+module _ (b : List ℕ) (e : readRecord b .reply ≡ Done) where
   stages : (counted layout b ≡ true) × (versioned version b ≡ true) × (sound layout b ≡ true)
   unfolding readRecord
   stages = judged (counted layout b) (versioned version b) (sound layout b) (done (stateIn b)) e
@@ -122,10 +123,10 @@ module _ (b : List ℕ) (y : Bytes b) (e : readRecord b .reply ≡ Done) where
   stated : fieldAt pair b 0 ≡ 2148
   stated = counted-number b (stages .0) .0
 
-  long : length b ≡ recordLength
+  pub long : length b ≡ recordLength
   long = counted-number b (stages .0) .1
 
-  answer : readRecord b ≡ done (stateIn b)
+  pub answer : readRecord b ≡ done (stateIn b)
   answer = accepts b (stages .0) (stages .1) (stages .2)
 
   bounds : (leb (getD b 31 0) 1 && leb (getD b 36 0) 1 && lawfulState (stateIn b)) ≡ true
@@ -134,12 +135,12 @@ module _ (b : List ℕ) (y : Bytes b) (e : readRecord b .reply ≡ Done) where
   flags : (leb (getD b 31 0) 1 && leb (getD b 36 0) 1) ≡ true
   flags = left (leb (getD b 31 0) 1 && leb (getD b 36 0) 1) (lawfulState (stateIn b)) bounds
 
-  state-lawful : lawfulState (stateIn b) ≡ true
+  pub state-lawful : lawfulState (stateIn b) ≡ true
   state-lawful = right (leb (getD b 31 0) 1 && leb (getD b 36 0) 1) (lawfulState (stateIn b)) bounds
 
-  same-bytes : recordOf (stateIn b) ≡ b
+  same-bytes : Bytes b → recordOf (stateIn b) ≡ b
   unfolding recordOf
-  same-bytes =
+  same-bytes y =
       let v : getD b 2 0 ≡ 1 = eqb-true _ _ (stages .1) in
       let low = y 1 in
       let n = stated in
@@ -168,16 +169,16 @@ writtenReadsBack s target z h l =
 
 pub readWritesBack : ReadWritesBack
 readWritesBack b target y e l =
-    let a : readRecord b .state ≡ stateIn b = ap (λ (r : Answer). r .state) (answer b y e) in
-    let w = write-done target (stateIn b) l (state-lawful b y e) in
-    (ap (writeReply target) a ∙ w .0, ap (writtenIn target) a ∙ w .1 ∙ same-bytes b y e)
+    let a : readRecord b .state ≡ stateIn b = ap (λ (r : Answer). r .state) (answer b e) in
+    let w = write-done target (stateIn b) l (state-lawful b e) in
+    (ap (writeReply target) a ∙ w .0, ap (writtenIn target) a ∙ w .1 ∙ same-bytes b e y)
 
 pub readsRecords : ReadsRecords
 unfolding readRecord
 readsRecords b y = ((accepted, records), others)
   where
     accepted : readRecord b .reply ≡ Done → IsRecord b
-    accepted e = (stateIn b, state-sized b, state-lawful b y e, same-bytes b y e)
+    accepted e = (stateIn b, state-sized b, state-lawful b e, same-bytes b e y)
 
     records : IsRecord b → readRecord b .reply ≡ Done
     records r = ap (λ (c : List ℕ). readRecord c .reply) (sym (r .3)) ∙ ap (λ (a : Answer). a .reply) (record-read (r .0) (r .1) (r .2))

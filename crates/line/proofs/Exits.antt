@@ -15,10 +15,10 @@ use Rattle.state.specs.declared.State.{State}
 use Rattle.surface.specs.Lines.{isLine}
 use Rattle.surface.specs.declared.lines.LineNumber.{LineNumber}
 use Rattle.line.proofs.Bounded.{left-true, right-true}
-use Rattle.line.specs.Replies.{lineReply, lengthsReply, lawfulReply, firstOf, firstHit, drawReply, drawnIf}
+use Rattle.line.specs.Replies.{lineReply, lengthsReply, lawfulReply, stateReply, firstOf, firstHit, drawReply, drawnIf}
 
 -- after the last piece nothing refuses
-last-of : (d : Reply) → firstOf d Done ≡ d
+pub last-of : (d : Reply) → firstOf d Done ≡ d
 unfolding firstOf
 last-of Done = refl
 last-of NoLine = refl
@@ -42,7 +42,7 @@ in-order a b c d a₀ b₀ c₀ d₀ l m r ea eb ec ed p q e =
     rw (← ea, ← eb, ← ec, ← ed) (e ∙ ap (firstOf a) (q ∙ ap (firstOf b) (p ∙ ap (firstOf c) (sym (last-of d)))))
 
 -- where neither of two refuses, both are done
-both-done : (a b : Reply) → firstOf a b ≡ Done → (a ≡ Done) × (b ≡ Done)
+pub both-done : (a b : Reply) → firstOf a b ≡ Done → (a ≡ Done) × (b ≡ Done)
 unfolding firstOf
 both-done Done b e = (refl, e)
 both-done NoLine b e = absurd (omega (arith, ap replyNumber e))
@@ -59,7 +59,7 @@ both-done TooManyTiles b e = absurd (omega (arith, ap replyNumber e))
 both-done PackingBounds b e = absurd (omega (arith, ap replyNumber e))
 both-done NotRecord b e = absurd (omega (arith, ap replyNumber e))
 
-number-done : (r : Reply) → replyNumber r ≡ 0 → r ≡ Done
+pub number-done : (r : Reply) → replyNumber r ≡ 0 → r ≡ Done
 number-done Done e = refl
 number-done NoLine e = absurd (omega arith)
 number-done BankLength e = absurd (omega arith)
@@ -80,6 +80,19 @@ held : (b : Bool) (n : ℕ) (q r : Reply) → replyNumber r ≡ n → (n ≡ 0 �
 held true n q r e z d = (refl, d)
 held false n q r e z d = absurd (z (sym e ∙ ap replyNumber d))
 
+pub line-met : (l : LineNumber) → lineReply l ≡ Done → isLine l ≡ true
+unfolding lineReply
+line-met l d = held (isLine l) 1 Done NoLine refl (λ z. omega arith) d .0
+
+pub lengths-met : (u t o : ℕ) → lengthsReply u t o ≡ Done → (u ≡ 16384) × (t ≡ 16384) × (o ≡ 640)
+unfolding lengthsReply
+lengths-met u t o d =
+    let h = held (eqb u 16384 && eqb t 16384) 2 (cond (eqb o 640) Done BufferLength) BankLength refl (λ z. omega arith) d in (
+      eqb-true u 16384 (left-true (eqb u 16384) (eqb t 16384) (h .0)),
+      eqb-true t 16384 (right-true (eqb u 16384) (eqb t 16384) (h .0)),
+      eqb-true o 640 (held (eqb o 640) 3 Done BufferLength refl (λ z. omega arith) (h .1) .0),
+    )
+
 pub record Judged (l : LineNumber) (u t o : ℕ) (s : State) : Type 0 where
   pub line : isLine l ≡ true
   pub ula : u ≡ 16384
@@ -88,20 +101,26 @@ pub record Judged (l : LineNumber) (u t o : ℕ) (s : State) : Type 0 where
   pub lawful : lawfulState s ≡ true
 
 pub judged : (line : LineNumber) (ula tile out : ℕ) (s : State) (r : Reply) → r ≡ drawReply line ula tile out s → replyNumber r ≡ 0 → Judged line ula tile out s
-unfolding drawReply lineReply lengthsReply lawfulReply
+unfolding drawReply lawfulReply
 judged line ula tile out s r e n =
     let d = sym e ∙ number-done r n in
     let a = both-done (lineReply line) _ d in
     let b = both-done (lengthsReply ula tile out) _ (a .1) in
     let l = both-done (lawfulReply s) _ (b .1) in
-    let h = held (eqb ula 16384 && eqb tile 16384) 2 (cond (eqb out 640) Done BufferLength) BankLength refl (λ z. omega arith) (b .0) in
+    let m = lengths-met ula tile out (b .0) in
     record {
-      line = held (isLine line) 1 Done NoLine refl (λ z. omega arith) (a .0) .0;
-      ula = eqb-true ula 16384 (left-true (eqb ula 16384) (eqb tile 16384) (h .0));
-      tile = eqb-true tile 16384 (right-true (eqb ula 16384) (eqb tile 16384) (h .0));
-      out = eqb-true out 640 (held (eqb out 640) 3 Done BufferLength refl (λ z. omega arith) (h .1) .0);
+      line = line-met line (a .0);
+      ula = m .0;
+      tile = m .1;
+      out = m .2;
       lawful = held (lawfulState s) 4 Done NotLawful refl (λ z. omega arith) (l .0) .0;
     }
+
+-- where line, lengths and lawfulness are met, what the state alone is refused for is the answer
+pub state-alone : (l : LineNumber) (u t o : ℕ) (s : State) → isLine l ≡ true → u ≡ 16384 → t ≡ 16384 → o ≡ 640 → lawfulState s ≡ true
+    → drawReply l u t o s ≡ stateReply (s .ula) (s .tiles) (s .palette) (s .ports)
+unfolding drawReply lineReply lengthsReply lawfulReply firstOf
+state-alone l u t o s hl hu ht ho hs = rw (hl, hu, ht, ho, hs) (last-of (stateReply (s .ula) (s .tiles) (s .palette) (s .ports)))
 
 -- the line afterwards, drawn or left
 pub drawn : (r q : Reply) (whole after out : List ℕ) → r ≡ q → isDone r ≡ true → after ≡ whole → after ≡ drawnIf q whole out

@@ -7,6 +7,7 @@ mod replies;
 pub use drawer::draw;
 pub use lines::composed_line;
 pub use lines::finish_line;
+pub use lines::tiles_over;
 pub use replies::first_of;
 pub use replies::lawful_reply;
 pub use replies::lengths_reply;

@@ -67,7 +67,7 @@ fn layered(
 }
 
 // The tilemap's dots composed with the ULA's in out, of any state with these parts.
-fn tiles_over<'a>(
+pub fn tiles_over<'a>(
     u: Ula,
     t: Tiles,
     clip: &'a [u8; 4],

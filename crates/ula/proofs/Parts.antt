@@ -2,7 +2,7 @@
 use Prim.Native.Nat.{ℕ}
 use mathlib.Core.Path.{_≡_, refl, ap, _∙_}
 use mathlib.Core.List.{List}
-use mathlib.Core.Bool.{Bool, cond}
+use mathlib.Core.Bool.{Bool, true, false, cond}
 use Rattle.lists.specs.Tab.{tab}
 use Rattle.state.specs.Bits.{ulaOn, ulaSecondShown}
 use Rattle.state.specs.declared.State.{State}
@@ -44,3 +44,14 @@ pub same-dots : (s : State) (bank : List ℕ) (line : LineNumber)
     → ulaDot (shownState (s .ula) (s .palette) (s .ports) (s .frame) (s .ulaclip) (s .plus) (s .ulafirst) (s .ulasecond)) bank line ≡ ulaDot s bank line
 unfolding ulaDot ulaLine ulaPalette
 same-dots s bank line = refl
+
+twice : (pal : List ℕ) (b : Bool) → cond b pal pal ≡ pal
+twice pal true = refl
+twice pal false = refl
+
+-- nor the palette that is not shown
+pub shown-dots : (s : State) (pal bank : List ℕ) (line : LineNumber) → pal ≡ ulaPalette s
+    → ulaDot (shownState (s .ula) (s .palette) (s .ports) (s .frame) (s .ulaclip) (s .plus) pal pal) bank line ≡ ulaDot s bank line
+unfolding ulaDot ulaLine ulaPalette
+shown-dots s pal bank line e =
+    ap (λ (c : List ℕ). lineDot (ulaLine s c line) c (s .plus) bank) (twice pal (ulaSecondShown (s .palette)) ∙ e)

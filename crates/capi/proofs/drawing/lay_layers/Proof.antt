@@ -1,0 +1,44 @@
+-- With the tilemap both layers, without it the ULA alone.
+use Rattle.capi.proofs.Shown.{layers-on, layers-off}
+use Rattle.state.specs.Bits.{tilemapOn}
+use mathlib.Core.Path.{sym, ap, _∙_}
+use borrow.Author.Needs.{needs}
+use Rattle.capi.proofs.drawing.lay_layers.Statement.{statement}
+use Rattle.capi.proofs.drawing.lay_layers.Tie as tie
+
+lay-ula-requires : tie.Need-lay-ula-requires
+lay-ula-requires c κs = search needs
+
+tiles-at-requires : tie.Need-tiles-at-requires
+tiles-at-requires c κs = search needs
+
+tilemap-on-requires : tie.Need-tilemap-on-requires
+tilemap-on-requires c κs = search needs
+
+lay-tiles-requires : tie.Need-lay-tiles-requires
+lay-tiles-requires c κs = search needs
+
+same-length : tie.Need-same-length
+same-length c = search needs
+
+returns : tie.Need-returns
+returns c = layers-on _ _ _ _ _ (c .before .before .before .before .before .before .before .before .before .lay-ula .ensures) _ (c .before .before .lay-tiles .ensures)
+
+same-length-2 : tie.Need-same-length-2
+same-length-2 c = search needs
+
+returns-2 : tie.Need-returns-2
+returns-2 c = layers-off _ _ _ _ _ (c .before .before .before .before .before .lay-ula .ensures) (ap tilemapOn (sym (c .before .before .tiles-at .ensures)) ∙ sym (c .before .tilemap-on .ensures) ∙ c .if1 .left)
+
+pub lay-layers-spec : {M : Type 1} → statement M
+lay-layers-spec =
+    tie.close
+    (tie.spec
+    lay-ula-requires
+    tiles-at-requires
+    tilemap-on-requires
+    lay-tiles-requires
+    same-length
+    returns
+    same-length-2
+    returns-2)
