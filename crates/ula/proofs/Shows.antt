@@ -1,13 +1,13 @@
 -- A row of the display by its mode and its clip, and a line with its border.
-use Prim.Native.Nat.{ℕ, _+_, _-_, _/_, _<_}
+use Prim.Native.Nat.{ℕ, _+_, _-_, _/_, _≤_, _<_}
 use mathlib.Core.Path.{_≡_, refl, sym, ap, _∙_}
 use mathlib.Core.List.{List, _++_}
 use mathlib.Core.Bool.{Bool, true, false, _&&_}
 use native.Mathlib.Omega.{arith}
-use lib.ListN.{getD, take, drop}
+use lib.ListN.{length, getD, take}
 use borrow.Author.Tests.{le-leb, lt-leb}
 use Rattle.lists.specs.Tab.{tab}
-use Rattle.lists.proofs.Tab.{tab-ext, tab-patch, getD-tab}
+use Rattle.lists.proofs.Tab.{tab-ext, tab-none, tab-part, tab-done, getD-tab}
 use Rattle.lists.proofs.Cond.{if-true, if-false}
 use Rattle.surface.specs.Dots.{clipped}
 use Rattle.address.specs.Modes.{isLores, isWide}
@@ -67,11 +67,21 @@ module _ (u : UlaLine) (pal plus bank : List ℕ) where
       let t : (u .display && inDots (64 + k)) ≡ true = rw (d, le-leb 32 ((64 + k) / 2) (omega arith), le-leb ((64 + k) / 2) 287 (omega arith)) in
       ap (displayDot (u .place) (u .colours) pal plus bank) e ∙ sym (if-true _ _ _ o ∙ if-true _ _ _ t)
 
-  pub line-display : (old new : List ℕ) (n : ℕ) → n ≡ 640 → u .on ≡ true → u .display ≡ true → old ≡ tab (λ (k : ℕ). u .border) n
-      → new ≡ tab (displayDot (u .place) (u .colours) pal plus bank) 512 → take 64 old ++ (new ++ drop 512 (drop 64 old)) ≡ tab (lineDot u pal plus bank) 640
-  line-display old new n e o d p q =
-      rw (p, q, e)
-      (tab-patch (λ (k : ℕ). u .border) (displayDot (u .place) (u .colours) pal plus bank) (lineDot u pal plus bank) 64 512 64
-      (λ k h. in-border k o (rw (lt-leb 32 (k / 2) (omega arith))))
-      (λ k h. in-display k h o d)
-      (λ k h. in-border (576 + k) o (rw (le-leb 32 ((576 + k) / 2) (omega arith), lt-leb ((576 + k) / 2) 287 (omega arith)))))
+  -- the two sides of the border and the display between them, one after the other
+  pub line-framed : (old o₁ o₂ o₃ p d q r₁ r₂ r₃ : List ℕ) (n m : ℕ) → u .on ≡ true → u .display ≡ true
+      → o₁ ≡ take 0 old ++ (p ++ r₁) → o₂ ≡ take 64 o₁ ++ (d ++ r₂) → o₃ ≡ take 576 o₂ ++ (q ++ r₃)
+      → 64 ≤ length o₁ → 576 ≤ length o₂ → length o₃ ≡ 640 → n ≡ 64 → m ≡ 64
+      → p ≡ tab (λ (k : ℕ). u .border) n → d ≡ tab (displayDot (u .place) (u .colours) pal plus bank) 512 → q ≡ tab (λ (k : ℕ). u .border) m
+      → o₃ ≡ tab (lineDot u pal plus bank) 640
+  line-framed old o₁ o₂ o₃ p d q r₁ r₂ r₃ n m o s e₁ e₂ e₃ l₁ l₂ l₃ en em ep ed eq =
+      let f : ℕ → ℕ = lineDot u pal plus bank in
+      let left : p ≡ tab (λ (k : ℕ). f (0 + k)) 64 =
+      ep ∙ ap (tab (λ (k : ℕ). u .border)) en ∙ tab-ext _ _ 64 (λ k h. in-border (0 + k) o (rw (lt-leb 32 ((0 + k) / 2) (omega arith)))) in
+      let middle : d ≡ tab (λ (k : ℕ). f (64 + k)) 512 = ed ∙ tab-ext _ _ 512 (λ k h. in-display k h o s) in
+      let right : q ≡ tab (λ (k : ℕ). f (576 + k)) 64 =
+      eq ∙ ap (tab (λ (k : ℕ). u .border)) em
+      ∙ tab-ext _ _ 64 (λ k h. in-border (576 + k) o (rw (le-leb 32 ((576 + k) / 2) (omega arith), lt-leb ((576 + k) / 2) 287 (omega arith)))) in
+      let t₁ : take 64 o₁ ≡ tab f 64 = rw e₁ (tab-part f old p r₁ 0 64 64 (omega arith) (tab-none f) left refl) in
+      let t₂ : take 576 o₂ ≡ tab f 576 = rw e₂ (tab-part f o₁ d r₂ 64 512 576 l₁ t₁ middle refl) in
+      let t₃ : take 640 o₃ ≡ tab f 640 = rw e₃ (tab-part f o₂ q r₃ 576 64 640 l₂ t₂ right refl) in
+      tab-done f o₃ 640 l₃ t₃

@@ -136,18 +136,31 @@ fn display_row(
     }
 }
 
+// A line of the display between the two sides of the border.
+fn framed_row(u: UlaLine, pal: &[u16; 256], plus: &[u8; 64], bank: &[u8], out: &mut [u16])
+    requires { ⌜ (Ready u) × (u .on ≡ true) × (u .display ≡ true) × (length (now bank) ≡ 16384) × (length (now out) ≡ 640) ⌝ }
+    ensures { λ r. ⌜ now (out .exit) ≡ tab (lineDot u (now (pal .entry)) (now (plus .entry)) (now (bank .entry))) 640 ⌝ }
+{
+    let p = u.place;
+    let l = u.colours;
+    let start = 0;
+    let a = 64;
+    let e = 576;
+    let end = 640;
+    paint(u.border, &mut out[start..a]);
+    display_row(p, l, pal, plus, bank, &mut out[a..e]);
+    paint(u.border, &mut out[e..end]);
+}
+
 fn line_row(u: UlaLine, pal: &[u16; 256], plus: &[u8; 64], bank: &[u8], out: &mut [u16])
     requires { ⌜ (Ready u) × (length (now bank) ≡ 16384) × (length (now out) ≡ 640) ⌝ }
     ensures { λ r. ⌜ now (out .exit) ≡ tab (lineDot u (now (pal .entry)) (now (plus .entry)) (now (bank .entry))) 640 ⌝ }
 {
     if u.on {
-        paint(u.border, out);
         if u.display {
-            let p = u.place;
-            let l = u.colours;
-            let a = 64;
-            let e = 576;
-            display_row(p, l, pal, plus, bank, &mut out[a..e]);
+            framed_row(u, pal, plus, bank, out);
+        } else {
+            paint(u.border, out);
         }
     } else {
         paint(512, out);
