@@ -1,5 +1,5 @@
 -- A row whose two ends are painted over is the row within its clip.
-use Prim.Native.Nat.{ℕ, _+_, _-_, _*_, _/_, _<_}
+use Prim.Native.Nat.{ℕ, _+_, _-_, _/_, _≤_, _<_}
 use mathlib.Core.Path.{_≡_, refl, sym, ap, _∙_}
 use mathlib.Core.List.{List, _++_}
 use mathlib.Core.Bool.{Bool, true, false, cond, _&&_}
@@ -37,35 +37,37 @@ goes : (a b : Bool) (x : ℕ) → b ≡ false → 512 ≡ cond (a && b) x 512
 goes true b x e = sym (if-false b x 512 e)
 goes false b x e = refl
 
-module _ (xs : List ℕ) (left right : ℕ) (e : length xs ≡ 512) where
+module _ (xs : List ℕ) (left right size : ℕ) (e : length xs ≡ size) where
   abbrev opened : ℕ → ℕ
   opened d = cond (leb left (d / 2)) (getD xs d 0) 512
 
-  -- the left end painted over
-  pub clip-left : (n : ℕ) → left < 256 → n ≡ left * 2 → take 0 xs ++ (tab (λ (k : ℕ). 512) n ++ drop n (drop 0 xs)) ≡ tab opened 512
-  clip-left n h q =
-      painted xs opened 0 n (512 - n) 512 e (omega arith)
+  -- the left end painted over: the n dots whose pixel is left of the clip
+  clip-left : (n : ℕ) → n ≤ size → ((d : ℕ) → d < n → d / 2 < left) → ((d : ℕ) → n ≤ d → d < size → left ≤ d / 2)
+      → take 0 xs ++ (tab (λ (k : ℕ). 512) n ++ drop n (drop 0 xs)) ≡ tab opened size
+  clip-left n h outside within =
+      painted xs opened 0 n (size - n) size e (omega arith)
       (λ k g. absurd (omega arith))
-      (λ k g. sym (if-false (leb left ((0 + k) / 2)) (getD xs (0 + k) 0) 512 (lt-leb left ((0 + k) / 2) (omega arith))))
-      (λ k g. sym (if-true (leb left ((0 + n + k) / 2)) (getD xs (0 + n + k) 0) 512 (le-leb left ((0 + n + k) / 2) (omega arith))))
+      (λ k g. sym (if-false (leb left ((0 + k) / 2)) (getD xs (0 + k) 0) 512 (lt-leb left ((0 + k) / 2) (outside (0 + k) (omega arith)))))
+      (λ k g. sym (if-true (leb left ((0 + n + k) / 2)) (getD xs (0 + n + k) 0) 512 (le-leb left ((0 + n + k) / 2) (within (0 + n + k) (omega arith) (omega arith)))))
 
-  -- then the right end
-  pub clip-right : (ys : List ℕ) (a n : ℕ) → right < 256 → a ≡ right * 2 + 2 → n ≡ 512 - a → ys ≡ tab opened 512
-      → take a ys ++ (tab (λ (k : ℕ). 512) n ++ drop n (drop a ys)) ≡ tab (λ (d : ℕ). clipped (d / 2) left right (getD xs d 0)) 512
+  -- then the right end, from a on
+  clip-right : (ys : List ℕ) (a n : ℕ) → a + n ≡ size → ((d : ℕ) → d < a → d / 2 ≤ right) → ((d : ℕ) → a ≤ d → d < size → right < d / 2)
+      → ys ≡ tab opened size → take a ys ++ (tab (λ (k : ℕ). 512) n ++ drop n (drop a ys)) ≡ tab (λ (d : ℕ). clipped (d / 2) left right (getD xs d 0)) size
   unfolding clipped
-  clip-right ys a n h q m y =
-      painted ys (λ (d : ℕ). clipped (d / 2) left right (getD xs d 0)) a n 0 512 (ap length y ∙ length-tab opened 512) (omega arith)
+  clip-right ys a n m within outside y =
+      painted ys (λ (d : ℕ). clipped (d / 2) left right (getD xs d 0)) a n 0 size (ap length y ∙ length-tab opened size) (omega arith)
       (λ k g.
-      ap (λ (l : List ℕ). getD l k 0) y ∙ getD-tab opened 512 k (omega arith)
-      ∙ stays (leb left (k / 2)) (leb (k / 2) right) (getD xs k 0) (le-leb (k / 2) right (omega arith)))
-      (λ k g. goes (leb left ((a + k) / 2)) (leb ((a + k) / 2) right) (getD xs (a + k) 0) (lt-leb ((a + k) / 2) right (omega arith)))
+      ap (λ (l : List ℕ). getD l k 0) y ∙ getD-tab opened size k (omega arith)
+      ∙ stays (leb left (k / 2)) (leb (k / 2) right) (getD xs k 0) (le-leb (k / 2) right (within k g)))
+      (λ k g. goes (leb left ((a + k) / 2)) (leb ((a + k) / 2) right) (getD xs (a + k) 0) (lt-leb ((a + k) / 2) right (outside (a + k) (omega arith) (omega arith))))
       (λ k g. absurd (omega arith))
 
   -- both ends, as the two lent parts come back
-  pub clip-ends : (p q : List ℕ) (n m k a j : ℕ) → left < 256 → right < 256 → k ≡ left * 2 → a ≡ right * 2 + 2 → j ≡ 512 - a
+  pub clip-ends : (p q : List ℕ) (n m k a j : ℕ) → k ≤ size → ((d : ℕ) → d < k → d / 2 < left) → ((d : ℕ) → k ≤ d → d < size → left ≤ d / 2)
+      → a + j ≡ size → ((d : ℕ) → d < a → d / 2 ≤ right) → ((d : ℕ) → a ≤ d → d < size → right < d / 2)
       → p ≡ tab (λ (i : ℕ). 512) n → n ≡ k → q ≡ tab (λ (i : ℕ). 512) m → m ≡ j
-      → take a (p ++ drop k (drop 0 xs)) ++ (q ++ drop j (drop a (p ++ drop k (drop 0 xs)))) ≡ tab (λ (d : ℕ). clipped (d / 2) left right (getD xs d 0)) 512
-  clip-ends p q n m k a j hl hr ek ea ej ep en eq em =
+      → take a (p ++ drop k (drop 0 xs)) ++ (q ++ drop j (drop a (p ++ drop k (drop 0 xs)))) ≡ tab (λ (d : ℕ). clipped (d / 2) left right (getD xs d 0)) size
+  clip-ends p q n m k a j hk lo li ha ri ro ep en eq em =
       let ys : List ℕ = p ++ drop k (drop 0 xs) in
-      let y : ys ≡ tab opened 512 = ap (λ (l : List ℕ). l ++ drop k (drop 0 xs)) (ep ∙ ap (tab (λ (i : ℕ). 512)) en) ∙ clip-left k hl ek in
-      ap (λ (l : List ℕ). take a ys ++ (l ++ drop j (drop a ys))) (eq ∙ ap (tab (λ (i : ℕ). 512)) em) ∙ clip-right ys a j hr ea ej y
+      let y : ys ≡ tab opened size = ap (λ (l : List ℕ). l ++ drop k (drop 0 xs)) (ep ∙ ap (tab (λ (i : ℕ). 512)) en) ∙ clip-left k hk lo li in
+      ap (λ (l : List ℕ). take a ys ++ (l ++ drop j (drop a ys))) (eq ∙ ap (tab (λ (i : ℕ). 512)) em) ∙ clip-right ys a j ha ri ro y

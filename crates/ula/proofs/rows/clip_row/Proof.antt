@@ -1,7 +1,6 @@
 -- The two ends are painted over; what is left of the row is the clip.
 use Prim.Native.Nat.{_+_, _-_, _*_}
 use lib.ListN.{length-take, length-drop}
-use mathlib.Core.Path.{refl}
 use native.Mathlib.Omega.{arith}
 use Rattle.ula.proofs.Clips.{clip-ends}
 use borrow.Author.Needs.{needs}
@@ -54,7 +53,7 @@ returns : tie.Need-returns
 returns c = let s = c .before .before .before .before .before .before .before .before .before in
     let left = s .args .left in
     let right = s .args .right in
-    clip-ends (s .args .out .now) left right (omega arith) _ _ _ _ (left * 2 - 0) (right * 2 + 2) (512 - (right * 2 + 2)) (omega arith) (omega arith) (omega arith) refl refl (c .before .before .before .before .before .before .paint .ensures) (simp (length-take, length-drop) (omega arith)) (c .before .before .paint2 .ensures) (simp (length-take, length-drop) (omega arith))
+    clip-ends (s .args .out .now) left right 512 (omega arith) _ _ _ _ (left * 2 - 0) (right * 2 + 2) (512 - (right * 2 + 2)) (omega arith) (λ d h. omega arith) (λ d h g. omega arith) (omega arith) (λ d h. omega arith) (λ d h g. omega arith) (c .before .before .before .before .before .before .paint .ensures) (simp (length-take, length-drop) (omega arith)) (c .before .before .paint2 .ensures) (simp (length-take, length-drop) (omega arith))
 
 pub clip-row-spec : {M : Type 1} → statement M
 clip-row-spec =
