@@ -8,6 +8,7 @@ use lib.ListN.{getD}
 use Rattle.lists.specs.Tab.{tab}
 use Rattle.lists.proofs.Tab.{tab-ext, getD-tab}
 use Rattle.state.specs.Bits.{ulaOn, stencilSet, tilemapOn, ulaSecondShown, tileSecondShown}
+use Rattle.state.specs.Lawful.{allColours}
 use Rattle.state.specs.declared.State.{State}
 use Rattle.state.specs.declared.Ula.{Ula}
 use Rattle.state.specs.declared.Tiles.{Tiles}
@@ -80,3 +81,14 @@ module _ (s : State) (ula tile : List ℕ) (line : LineNumber) (old : List ℕ) 
   pub layers-off : tilemapOn (s .tiles) ≡ false → old ≡ composedLine s ula tile line
   unfolding composedLine
   layers-off o = e ∙ tab-ext _ _ 640 (λ k h. bare-dot k o)
+
+-- the tilemap palette shown has colours only
+pub colours-shown : (b : List ℕ) (t : Tiles) (place : ℕ) (pal : List ℕ) → t ≡ stateIn b .tiles → place ≡ cond (tileSecondShown t) 1638 1126 → pal ≡ rowAt pair 256 b place
+    → allColours (stateIn b .tilefirst) ≡ true → allColours (stateIn b .tilesecond) ≡ true → allColours pal ≡ true
+unfolding tilePalette
+colours-shown b t place pal et el ea f g =
+    ap allColours (ea ∙ tile-palette-at b place (el ∙ ap (λ (x : Tiles). cond (tileSecondShown x) 1638 1126) et)) ∙ either (tileSecondShown (stateIn b .tiles))
+  where
+    either : (second : Bool) → allColours (cond second (stateIn b .tilesecond) (stateIn b .tilefirst)) ≡ true
+    either true = g
+    either false = f

@@ -30,6 +30,8 @@ pub record Bounded (s : State) : Type 0 where
   pub xhigh : s .tiles .xhigh ≤ 3
   pub map : s .tiles .map < 64
   pub definitions : s .tiles .definitions < 64
+  pub first : allColours (s .tilefirst) ≡ true
+  pub second : allColours (s .tilesecond) ≡ true
 
 pub bounded : (s : State) → lawfulState s ≡ true → Bounded s
 unfolding lawfulState
@@ -37,8 +39,8 @@ bounded s e =
     let t = s .tiles in
     let p = s .palette in
     let groups = lawfulUla (s .ula) && lawfulPalette p && lawfulTiles t && lawfulTurns (s .turns) && lawfulPorts (s .ports) in
-    let g = five groups (allColours (s .ulafirst)) (allColours (s .ulasecond)) (allColours (s .tilefirst)) (allColours (s .tilesecond)) e .0 in
-    let parts = five (lawfulUla (s .ula)) (lawfulPalette p) (lawfulTiles t) (lawfulTurns (s .turns)) (lawfulPorts (s .ports)) g in
+    let g = five groups (allColours (s .ulafirst)) (allColours (s .ulasecond)) (allColours (s .tilefirst)) (allColours (s .tilesecond)) e in
+    let parts = five (lawfulUla (s .ula)) (lawfulPalette p) (lawfulTiles t) (lawfulTurns (s .turns)) (lawfulPorts (s .ports)) (g .0) in
     let tiles = five (leb (t .transparent) 15) (eqb (t .control % 16) 0) (leb (t .xhigh) 3) (ltb (t .map) 64) (ltb (t .definitions) 64) (parts .2) in
     let mask = left-true (isMask (p .mask)) (isChoice (p .control)) (left-true (isMask (p .mask) && isChoice (p .control)) (p .held || eqb (p .half) 0) (parts .1)) in
     record {
@@ -47,4 +49,6 @@ bounded s e =
       xhigh = leb-true (t .xhigh) 3 (tiles .2);
       map = ltb-true (t .map) 64 (tiles .3);
       definitions = ltb-true (t .definitions) 64 (tiles .4);
+      first = g .3;
+      second = g .4;
     }

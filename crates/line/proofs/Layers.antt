@@ -1,4 +1,4 @@
--- The layers of a line, joined: tile dots read from the row of codes, the composed line, and the fallback over it.
+-- The layers of a line, joined: tile dots read from the row of shades, the composed line, and the fallback over it.
 use Prim.Native.Nat.{ℕ, _+_, _/_, _%_, _≤_, _<_}
 use mathlib.Core.Path.{_≡_, refl, sym, ap, _∙_}
 use mathlib.Core.List.{List, _++_}
@@ -12,6 +12,7 @@ use Rattle.lists.proofs.Tab.{tab-ext, getD-tab}
 use Rattle.lists.proofs.Cond.{if-true, if-false}
 use Rattle.colour.specs.Bytes.{widened}
 use Rattle.state.specs.Bits.{ulaOn, tileSecondShown}
+use Rattle.state.specs.Lawful.{allColours}
 use Rattle.state.specs.declared.State.{State}
 use Rattle.state.specs.declared.Ula.{Ula}
 use Rattle.state.specs.declared.Tiles.{Tiles}
@@ -21,27 +22,39 @@ use Rattle.ula.specs.Display.{ulaDot}
 use Rattle.ula.specs.Bounds.{shownState}
 use Rattle.ula.proofs.Clips.{entries}
 use Rattle.ula.proofs.Parts.{same-dots}
-use Rattle.tilemap.specs.Index.{widthOf}
-use Rattle.tilemap.specs.Dots.{acrossOf, tileRow, tileDot}
+use Rattle.tilemap.specs.Index.{widthOf, txOf, tyOf, cellOf, entryAt, entryPixel}
+use Rattle.tilemap.specs.Dots.{codeOf, codeAt, acrossOf, tileDot}
+use Rattle.tilemap.specs.Shades.{shadeOf, shadeAt, tileRow}
+use Rattle.tilemap.specs.Bounds.{Laid}
 use Rattle.tilemap.specs.Setup.{windowOf, layoutOf}
 use Rattle.tilemap.specs.declared.rule.Layout.{Layout}
 use Rattle.tilemap.specs.declared.setup.Window.{Window}
 use Rattle.tilemap.proofs.Rows.{row-at}
+use Rattle.tilemap.proofs.Within.{pixel-below, high-below}
 use Rattle.line.specs.Compose.{tileColour, stencilled, composed}
+use Rattle.line.specs.Shades.{shadesOf, shadeOver}
+use Rattle.line.proofs.Shaded.{shade-composed, shade-clipped}
 use Rattle.line.specs.Lines.{tilePalette, stencilOn, tileDotOf, composedDot, composedLine, finished, lineDot, drawnLine}
 
 -- what a row still holds after a store below it
 pub rest-step : (out old : List ℕ) (k a : ℕ) → ((j : ℕ) → k ≤ j → getD out j 0 ≡ getD old j 0) → (j : ℕ) → k + 1 ≤ j → getD (set out k a) j 0 ≡ getD old j 0
 rest-step out old k a h j g = getD-set-other out k j a 0 (λ e. omega arith) ∙ h j (omega arith)
 
--- a dot's place in the row of codes
-pub across-within : (wide : Bool) (k : ℕ) → k < 640 → acrossOf wide k < widthOf wide
+-- a dot's place in the row of shades
+across-within : (wide : Bool) (k : ℕ) → k < 640 → acrossOf wide k < widthOf wide
 across-within true k h = omega arith
 across-within false k h = omega arith
 
-pub across-below : (wide : Bool) (k : ℕ) → k < 640 → acrossOf wide k < 640
-across-below true k h = h
-across-below false k h = omega arith
+-- the three steps of composing a row
+pub composed-row : (stencil : Bool) (row old dots cut out : List ℕ) (wide : Bool) (skew left right : ℕ)
+    → dots ≡ tab (λ (k : ℕ). getD row (skew + acrossOf wide k) 0) 640 → cut ≡ tab (λ (k : ℕ). clipped (k / 2) left right (getD dots k 0)) 640
+    → out ≡ tab (λ (k : ℕ). shadeOver stencil (getD old k 0) (getD cut k 0)) 640
+    → out ≡ tab (λ (k : ℕ). shadeOver stencil (getD old k 0) (clipped (k / 2) left right (getD row (skew + acrossOf wide k) 0))) 640
+composed-row stencil row old dots cut out wide skew left right d c e =
+    e ∙ tab-ext _ _ 640 (λ k h.
+    ap (shadeOver stencil (getD old k 0))
+    (ap (λ (l : List ℕ). getD l k 0) c ∙ getD-tab (λ (j : ℕ). clipped (j / 2) left right (getD dots j 0)) 640 k h
+    ∙ ap (clipped (k / 2) left right) (ap (λ (l : List ℕ). getD l k 0) d ∙ getD-tab (λ (j : ℕ). getD row (skew + acrossOf wide j) 0) 640 k h)))
 
 -- where no tile shows, the ULA's dot stays, and nothing is left of it under a stencil
 bare : (pal : List ℕ) (u : ℕ) → u ≡ composed false pal u 512
@@ -60,17 +73,24 @@ module _ (t : Layout) (w : Window) (clear : ℕ) (stencil : Bool) (pal bank out 
   abbrev laid : ℕ → ℕ
   laid k = composed stencil pal (getD out k 0) (tileDot w t clear bank y k)
 
-  pub layered-on : (row rest : List ℕ) (n : ℕ) → w .on ≡ true → row ≡ tileRow t n bank y ++ rest → n ≡ clear
-      → tab (λ (k : ℕ). composed stencil pal (getD out k 0) (clipped (k / 2) (w .left) (w .right) (getD row (t .x % 8 + acrossOf (t .wide) k) 0))) 640
+  pub layered-on : (row rest shades : List ℕ) → w .on ≡ true → Laid t → allColours pal ≡ true → ((i : ℕ) → getD bank i 0 < 256)
+      → shades ≡ shadesOf pal clear → row ≡ tileRow t shades bank y ++ rest
+      → tab (λ (k : ℕ). shadeOver stencil (getD out k 0) (clipped (k / 2) (w .left) (w .right) (getD row (t .x % 8 + acrossOf (t .wide) k) 0))) 640
       ≡ tab laid 640
-  unfolding tileDot
-  layered-on row rest n o q m =
-      let e : row ≡ tileRow t clear bank y ++ rest = q ∙ ap (λ (v : ℕ). tileRow t v bank y ++ rest) m in
+  unfolding tileDot shadeAt codeAt
+  layered-on row rest shades o l a f s q =
+      let e : row ≡ tileRow t (shadesOf pal clear) bank y ++ rest = q ∙ ap (λ (v : List ℕ). tileRow t v bank y ++ rest) s in
       tab-ext _ _ 640 (λ k h.
-      ap (composed stencil pal (getD out k 0))
-      (ap (clipped (k / 2) (w .left) (w .right))
-      (ap (λ (r : List ℕ). getD r (t .x % 8 + acrossOf (t .wide) k) 0) e ∙ row-at t clear bank y rest (acrossOf (t .wide) k) (across-within (t .wide) k h))
-      ∙ sym (if-true (w .on) _ _ o)))
+      let u = getD out k 0 in
+      let x = acrossOf (t .wide) k in
+      let cell = cellOf (t .wide) (txOf t x) (tyOf t y) in
+      let d = entryAt t bank cell in
+      let pixel = entryPixel t bank d (txOf t x % 8) (tyOf t y % 8) in
+      ap (λ (v : ℕ). shadeOver stencil u (clipped (k / 2) (w .left) (w .right) v))
+      (ap (λ (r : List ℕ). getD r (t .x % 8 + x) 0) e ∙ row-at t (shadesOf pal clear) bank y rest x (across-within (t .wide) k h))
+      ∙ shade-clipped stencil pal u (k / 2) (w .left) (w .right) (shadeOf (shadesOf pal clear) (d .high) pixel) (codeOf clear (d .high) pixel)
+      (shade-composed stencil pal u clear (d .high) pixel a (high-below t bank cell l f) (pixel-below t bank d (txOf t x % 8) (tyOf t y % 8)))
+      ∙ ap (composed stencil pal u) (sym (if-true (w .on) _ _ o)))
 
   no-tile : w .on ≡ false → (k : ℕ) → 512 ≡ tileDot w t clear bank y k
   unfolding tileDot

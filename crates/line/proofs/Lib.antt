@@ -1,3 +1,4 @@
 pub mod Bounded
+pub mod Shaded
 pub mod Layers
 pub mod Exits

@@ -1,3 +1,4 @@
 pub mod Compose
+pub mod Shades
 pub mod Lines
 pub mod Replies

@@ -1,19 +1,12 @@
 // The tile dots of a line over and under its ULA dots.
 ghost use mathlib.Core.Path.{_≡_};
-ghost use Prim.Native.Nat.{ℕ, _+_, _/_, _%_, _<_};
+ghost use Prim.Native.Nat.{ℕ, _+_, _/_, _≤_, _<_};
 ghost use lib.ListN.{length, getD};
 ghost use Rattle.lists.specs.Tab.{tab};
 ghost use Rattle.surface.specs.Dots.{clipped};
 ghost use Rattle.tilemap.specs.Dots.{acrossOf};
-ghost use Rattle.line.specs.Compose.{tileColour, stencilled, composed};
-
-// The colour c that the palette has at a code, or transparent.
-fn tile_colour(pal: &[u16; 256], c: u16, code: u16) -> u16
-    requires { ⌜ c ≡ getD (now pal) (code % 256) 0 ⌝ }
-    ensures { λ r. ⌜ r ≡ tileColour (now (pal .entry)) code ⌝ }
-{
-    if code == 512 { 512 } else { c }
-}
+ghost use Rattle.line.specs.Compose.{stencilled};
+ghost use Rattle.line.specs.Shades.{shadeOver};
 
 fn stencil_dot(a: u16, b: u16) -> u16
     ensures { λ r. ⌜ r ≡ stencilled a b ⌝ }
@@ -21,66 +14,98 @@ fn stencil_dot(a: u16, b: u16) -> u16
     if (a == 512) | (b == 512) { 512 } else { a & b }
 }
 
-// A dot before the fallback, 512 where transparent.
-fn composed_dot(stencil: bool, pal: &[u16; 256], c: u16, u: u16, code: u16) -> u16
-    requires { ⌜ c ≡ getD (now pal) (code % 256) 0 ⌝ }
-    ensures { λ r. ⌜ r ≡ composed stencil (now (pal .entry)) u code ⌝ }
+// A dot before the fallback, 512 where transparent, of the ULA's and a tile dot's shade. All three are made and one is chosen: no dot
+// costs a jump.
+fn composed_dot(stencil: bool, u: u16, v: u16) -> u16
+    ensures { λ r. ⌜ r ≡ shadeOver stencil u v ⌝ }
 {
-    let t = tile_colour(pal, c, code);
+    let t = v % 1024;
     let both = stencil_dot(u, t);
     let below = surface::over(u, t);
     let above = surface::over(t, u);
     if stencil {
         both
     } else {
-        if code / 256 == 1 { below } else { above }
+        if v / 1024 == 1 { below } else { above }
     }
 }
 
-// The code of dot k within the clip; a row of codes starts skew codes before the line.
-fn code_at(row: &[u16], wide: bool, skew: usize, left: usize, right: usize, k: usize) -> u16
-    requires { ⌜ (length (now row) ≡ 648) × (skew < 8) × (k < 640) ⌝ }
-    ensures { λ r. ⌜ r ≡ clipped (k / 2) left right (getD (now (row .entry)) (skew + acrossOf wide k) 0) ⌝ }
-{
-    let at = skew + tilemap::across(wide, k);
-    surface::clip(k / 2, left, right, row[at])
-}
-
-// The codes of a line's dots.
-fn dot_codes(row: &[u16], wide: bool, skew: usize, left: usize, right: usize, codes: &mut [u16])
-    requires { ⌜ (length (now row) ≡ 648) × (skew < 8) × (length (now codes) ≡ 640) ⌝ }
-    ensures { λ r. ⌜ now (codes .exit) ≡ tab (λ (k : ℕ). clipped (k / 2) left right (getD (now (row .entry)) (skew + acrossOf wide k) 0)) 640 ⌝ }
+// In 80 columns a shade is a dot; a row starts skew shades before the line.
+fn single_dots(row: &[u16], skew: usize, dots: &mut [u16])
+    requires { ⌜ (length (now row) ≡ 648) × (skew < 8) × (length (now dots) ≡ 640) ⌝ }
+    ensures { λ r. ⌜ now (dots .exit) ≡ tab (λ (k : ℕ). getD (now (row .entry)) (skew + k) 0) 640 ⌝ }
 {
     for k in 0..640 {
-        codes[k] = code_at(row, wide, skew, left, right, k);
+        let at = skew + k;
+        dots[k] = row[at];
     }
 }
 
-// The colours that the palette has at the codes, whether or not they show: no dot costs a jump.
-fn dot_colours(pal: &[u16; 256], codes: &[u16], colours: &mut [u16])
-    requires { ⌜ (length (now codes) ≡ 640) × (length (now colours) ≡ 640) ⌝ }
-    ensures { λ r. ⌜ now (colours .exit) ≡ tab (λ (k : ℕ). getD (now (pal .entry)) (getD (now (codes .entry)) k 0 % 256) 0) 640 ⌝ }
+// In 40 columns a shade is two dots.
+fn double_dots(row: &[u16], skew: usize, dots: &mut [u16])
+    requires { ⌜ (length (now row) ≡ 648) × (skew < 8) × (length (now dots) ≡ 640) ⌝ }
+    ensures { λ r. ⌜ now (dots .exit) ≡ tab (λ (k : ℕ). getD (now (row .entry)) (skew + k / 2) 0) 640 ⌝ }
 {
-    for k in 0..640 {
-        let i = (codes[k] % 256) as usize;
-        colours[k] = pal[i];
+    for x in 0..320 {
+        let at = skew + x;
+        let v = row[at];
+        dots[x * 2] = v;
+        dots[x * 2 + 1] = v;
     }
 }
 
-// The ULA's dots in out with the tile dots of these codes and colours; many dots are composed at once.
-fn compose_dots(stencil: bool, pal: &[u16; 256], codes: &[u16], colours: &[u16], out: &mut [u16])
-    requires { ⌜ (length (now codes) ≡ 640) × (now colours ≡ tab (λ (k : ℕ). getD (now pal) (getD (now codes) k 0 % 256) 0) 640) × (length (now colours) ≡ 640) × (length (now out) ≡ 640) ⌝ }
-    ensures { λ r. ⌜ now (out .exit) ≡ tab (λ (k : ℕ). composed stencil (now (pal .entry)) (getD (now (out .entry)) k 0) (getD (now (codes .entry)) k 0)) 640 ⌝ }
+// The shades of a line's dots.
+fn row_dots(row: &[u16], wide: bool, skew: usize, dots: &mut [u16])
+    requires { ⌜ (length (now row) ≡ 648) × (skew < 8) × (length (now dots) ≡ 640) ⌝ }
+    ensures { λ r. ⌜ now (dots .exit) ≡ tab (λ (k : ℕ). getD (now (row .entry)) (skew + acrossOf wide k) 0) 640 ⌝ }
+{
+    if wide {
+        single_dots(row, skew, dots);
+    } else {
+        double_dots(row, skew, dots);
+    }
+}
+
+// The first dot of a pixel, or the line's end.
+fn first_dot(left: usize) -> usize
+    ensures { λ r. ⌜ (r ≤ 640) × ((d : ℕ) → d < r → d / 2 < left) × ((d : ℕ) → r ≤ d → d < 640 → left ≤ d / 2) ⌝ }
+{
+    if left < 320 { left * 2 } else { 640 }
+}
+
+// The dot after a pixel, or the line's end.
+fn past_dot(right: usize) -> usize
+    ensures { λ r. ⌜ (r ≤ 640) × ((d : ℕ) → d < r → d / 2 ≤ right) × ((d : ℕ) → r ≤ d → d < 640 → right < d / 2) ⌝ }
+{
+    if right < 320 { right * 2 + 2 } else { 640 }
+}
+
+// What lies left of the clip and right of it becomes transparent.
+fn clip_dots(left: usize, right: usize, dots: &mut [u16])
+    requires { ⌜ length (now dots) ≡ 640 ⌝ }
+    ensures { λ r. ⌜ now (dots .exit) ≡ tab (λ (k : ℕ). clipped (k / 2) left right (getD (now (dots .entry)) k 0)) 640 ⌝ }
+{
+    let start = 0;
+    let first = first_dot(left);
+    ula::paint(512, &mut dots[start..first]);
+    let past = past_dot(right);
+    let end = 640;
+    ula::paint(512, &mut dots[past..end]);
+}
+
+// The ULA's dots in out with tile dots of these shades; many dots are composed at once.
+fn compose_dots(stencil: bool, dots: &[u16], out: &mut [u16])
+    requires { ⌜ (length (now dots) ≡ 640) × (length (now out) ≡ 640) ⌝ }
+    ensures { λ r. ⌜ now (out .exit) ≡ tab (λ (k : ℕ). shadeOver stencil (getD (now (out .entry)) k 0) (getD (now (dots .entry)) k 0)) 640 ⌝ }
 {
     for k in 0..640 {
-        out[k] = composed_dot(stencil, pal, colours[k], out[k], codes[k]);
+        out[k] = composed_dot(stencil, out[k], dots[k]);
     }
 }
 
 // The ULA's dots in out become composed dots.
 pub fn compose_row(
     stencil: bool,
-    pal: &[u16; 256],
     row: &[u16],
     wide: bool,
     skew: usize,
@@ -89,11 +114,10 @@ pub fn compose_row(
     out: &mut [u16],
 )
     requires { ⌜ (length (now row) ≡ 648) × (skew < 8) × (length (now out) ≡ 640) ⌝ }
-    ensures { λ r. ⌜ now (out .exit) ≡ tab (λ (k : ℕ). composed stencil (now (pal .entry)) (getD (now (out .entry)) k 0) (clipped (k / 2) left right (getD (now (row .entry)) (skew + acrossOf wide k) 0))) 640 ⌝ }
+    ensures { λ r. ⌜ now (out .exit) ≡ tab (λ (k : ℕ). shadeOver stencil (getD (now (out .entry)) k 0) (clipped (k / 2) left right (getD (now (row .entry)) (skew + acrossOf wide k) 0))) 640 ⌝ }
 {
-    let mut codes = [0u16; 640];
-    dot_codes(row, wide, skew, left, right, &mut codes);
-    let mut colours = [0u16; 640];
-    dot_colours(pal, &codes, &mut colours);
-    compose_dots(stencil, pal, &codes, &colours, out);
+    let mut dots = [0u16; 640];
+    row_dots(row, wide, skew, &mut dots);
+    clip_dots(left, right, &mut dots);
+    compose_dots(stencil, &dots, out);
 }

@@ -5,15 +5,15 @@ ghost use Prim.Native.Nat.{ℕ, _/_, _<_, _≤_};
 ghost use lib.ListN.{length, getD};
 ghost use Rattle.lists.specs.Tab.{tab};
 ghost use Rattle.state.specs.Bits.{ulaOn, tileSecondShown};
-ghost use Rattle.state.specs.Lawful.{lawfulState};
+ghost use Rattle.state.specs.Lawful.{allColours, lawfulState};
 ghost use Rattle.surface.specs.Lines.{isLine};
 ghost use Rattle.tilemap.specs.Dots.{tileDot};
 ghost use Rattle.tilemap.specs.Setup.{layoutOf, windowOf};
 ghost use Rattle.tilemap.specs.Bounds.{Laid};
 ghost use Rattle.line.specs.Compose.{composed};
+ghost use Rattle.line.specs.Shades.{unlessClear, shadesOf};
 ghost use Rattle.line.specs.Lines.{stencilOn, composedLine, finished};
 use crate::compose::compose_row;
-use lists::wide;
 use state::State;
 use state::Tiles;
 use state::Ula;
@@ -40,6 +40,23 @@ fn stencil_on(u: Ula, t: Tiles) -> bool
     (u.control % 2 == 1) & ula & tiles
 }
 
+// A colour of the palette at an index, or 512 where the pixel there is the transparent one.
+fn unless_clear(clear: u8, i: u8, colour: u16) -> u16
+    ensures { λ r. ⌜ r ≡ unlessClear clear i colour ⌝ }
+{
+    if i % 16 == clear { 512 } else { colour }
+}
+
+// The palette lent, with 512 at each index of the transparent pixel: no dot of a line is then tested for it.
+fn shade_palette(pal: &[u16; 256], clear: u8, out: &mut [u16])
+    requires { ⌜ length (now out) ≡ 256 ⌝ }
+    ensures { λ r. ⌜ now (out .exit) ≡ shadesOf (now (pal .entry)) clear ⌝ }
+{
+    for i in 0..256 {
+        out[i] = unless_clear(clear, i as u8, pal[i]);
+    }
+}
+
 // The tile dots of a line composed with the ULA's in out. Without a window there is nothing to lay: the ULA's dots stay, or nothing
 // is left of them under a stencil.
 fn layered(
@@ -52,13 +69,15 @@ fn layered(
     line: LineNumber,
     out: &mut [u16],
 )
-    requires { ⌜ (Laid t) × (line .0 < 256) × (length (now bank) ≡ 16384) × (length (now out) ≡ 640) ⌝ }
+    requires { ⌜ (Laid t) × (allColours (now pal) ≡ true) × (line .0 < 256) × (length (now bank) ≡ 16384) × (length (now out) ≡ 640) ⌝ }
     ensures { λ r. ⌜ now (out .exit) ≡ tab (λ (k : ℕ). composed stencil (now (pal .entry)) (getD (now (out .entry)) k 0) (tileDot w t clear (now (bank .entry)) (line .0) k)) 640 ⌝ }
 {
     if w.on {
+        let mut shades = [0u16; 256];
+        shade_palette(pal, clear, &mut shades);
         let mut row = [0u16; 648];
-        tilemap::tile_row(t, wide(clear), bank, line, &mut row);
-        compose_row(stencil, pal, &row, t.wide, t.x % 8, w.left, w.right, out);
+        tilemap::tile_row(t, &shades, bank, line, &mut row);
+        compose_row(stencil, &row, t.wide, t.x % 8, w.left, w.right, out);
     } else {
         if stencil {
             ula::paint(512, out);
@@ -66,7 +85,7 @@ fn layered(
     }
 }
 
-// The tilemap's dots composed with the ULA's in out, of any state with these parts.
+// The tilemap's dots composed with the ULA's in out, of any state with these parts; a lawful state keeps their bounds.
 pub fn tiles_over<'a>(
     u: Ula,
     t: Tiles,
@@ -77,7 +96,7 @@ pub fn tiles_over<'a>(
     line: LineNumber,
     out: &mut [u16],
 )
-    requires { ⌜ (t .xhigh ≤ 3) × (t .map < 64) × (t .definitions < 64) × (line .0 < 256) × (length (now bank) ≡ 16384) × (length (now out) ≡ 640) ⌝ }
+    requires { ⌜ (t .xhigh ≤ 3) × (t .map < 64) × (t .definitions < 64) × (allColours (now first) ≡ true) × (allColours (now second) ≡ true) × (line .0 < 256) × (length (now bank) ≡ 16384) × (length (now out) ≡ 640) ⌝ }
     ensures { λ r. ⌜ now (out .exit) ≡ tab (λ (k : ℕ). composed (stencilOn u t) (cond (tileSecondShown t) (now (second .entry)) (now (first .entry))) (getD (now (out .entry)) k 0)
         (tileDot (windowOf t (now (clip .entry)) line) (layoutOf t (ulaOn u)) (t .transparent) (now (bank .entry)) (line .0) k)) 640 ⌝ }
 {

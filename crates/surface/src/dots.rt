@@ -1,6 +1,6 @@
 // Dots: a nine-bit colour, or 512 where transparent.
 ghost use mathlib.Core.Path.{_≡_};
-ghost use Rattle.surface.specs.Dots.{shown, inside, clipped, above};
+ghost use Rattle.surface.specs.Dots.{shown, inside, above};
 use lists::wide16;
 
 // A ULA colour as a dot: transparent where its upper eight bits are those of $14.
@@ -15,13 +15,6 @@ pub fn is_inside(v: usize, low: usize, high: usize) -> bool
     ensures { λ r. ⌜ r ≡ inside v low high ⌝ }
 {
     (low <= v) & (v <= high)
-}
-
-// A dot at x, transparent outside the clip.
-pub fn clip(x: usize, left: usize, right: usize, dot: u16) -> u16
-    ensures { λ r. ⌜ r ≡ clipped x left right dot ⌝ }
-{
-    if is_inside(x, left, right) { dot } else { 512 }
 }
 
 // The upper dot unless transparent, then the lower.

@@ -2,7 +2,6 @@
 mod dots;
 mod lines;
 
-pub use dots::clip;
 pub use dots::is_inside;
 pub use dots::over;
 pub use dots::show;

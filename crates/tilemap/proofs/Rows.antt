@@ -1,18 +1,37 @@
--- The row of a line: a cell's eight codes are eight of the row's, a cell that is written makes the row longer, and the
--- code at x of the surface stands X offset mod 8 further on.
-use Prim.Native.Nat.{ℕ, _+_, _*_, _/_, _%_, _≤_, _<_}
-use mathlib.Core.Path.{_≡_, refl, sym, ap, _∙_}
+-- The row of a line: a cell's eight shades are a column or a row of a definition, and eight of the line's; a cell that is written
+-- makes the row longer; and the shade at x of the surface stands X offset mod 8 further on.
+use Prim.Native.Nat.{ℕ, _+_, _*_, _/_, _%_, _<_}
+use mathlib.Core.Path.{_≡_, ap, _∙_}
 use mathlib.Core.List.{List, _++_, append-assoc}
-use mathlib.Core.Bool.{Bool, true, false}
+use mathlib.Core.Bool.{Bool, true, false, not}
 use native.Mathlib.Omega.{arith}
-use lib.ListN.{length, take, drop, getD, List·getD-append}
+use lib.Dec.{eqb}
+use borrow.Author.Tests.{eq-eqb, ne-eqb}
+use lib.ListN.{take, drop, getD, List·getD-append}
 use lib.Seq.{take-at, drop-at, drop-drop}
 use Rattle.lists.specs.Tab.{tab}
 use Rattle.lists.proofs.Tab.{tab-none, tab-ext, tab-join, length-tab, getD-tab}
 use Rattle.tilemap.specs.declared.rule.Layout.{Layout}
 use Rattle.tilemap.specs.declared.rule.Entry.{Entry}
-use Rattle.tilemap.specs.Index.{columnsOf, widthOf, tyOf, cellOf, entryAt, entryPixel}
-use Rattle.tilemap.specs.Dots.{codeOf, codeAt, tileCode, rowLength, tileRow}
+use Rattle.tilemap.specs.Index.{columnsOf, widthOf, txOf, tyOf, cellOf, entryAt, tileNumber, turnOf, mirrored, bOf, columnOf, rowOf, pixelAt, entryPixel}
+use Rattle.tilemap.specs.Shades.{shadeOf, shadeAt, rowLength, tileRow}
+
+-- a rotated entry shows a column of its definition, any other a row
+module _ (t : Layout) (shades bank : List ℕ) (e : Entry) (y n b : ℕ) (en : n ≡ tileNumber t e) (eb : b ≡ bOf (turnOf (e .high)) y) where
+  abbrev flip : Bool
+  flip = not (eqb (turnOf (e .high) / 4 % 2) (turnOf (e .high) % 2))
+
+  pub rotated-shades : turnOf (e .high) % 2 ≡ 1
+      → tab (λ (k : ℕ). shadeOf shades (e .high) (pixelAt bank (t .definitions + n * 32) b (mirrored flip k))) 8
+      ≡ tab (λ (k : ℕ). shadeOf shades (e .high) (entryPixel t bank e k y)) 8
+  unfolding entryPixel columnOf rowOf
+  rotated-shades r = tab-ext _ _ 8 (λ k g. rw (en, eb, eq-eqb (turnOf (e .high) % 2) 1 r))
+
+  pub straight-shades : (turnOf (e .high) % 2 ≡ 1 → ⊥)
+      → tab (λ (k : ℕ). shadeOf shades (e .high) (pixelAt bank (t .definitions + n * 32) (mirrored flip k) b)) 8
+      ≡ tab (λ (k : ℕ). shadeOf shades (e .high) (entryPixel t bank e k y)) 8
+  unfolding entryPixel columnOf rowOf
+  straight-shades r = tab-ext _ _ 8 (λ k g. rw (en, eb, ne-eqb (turnOf (e .high) % 2) 1 r))
 
 -- the eight places of a cell are in one column of the map
 same-column : (w : Bool) (x j k : ℕ) → j % 8 ≡ 0 → k < 8 → (x / 8 * 8 + (j + k)) % widthOf w / 8 ≡ (x / 8 * 8 + j) % widthOf w / 8
@@ -23,12 +42,12 @@ within : (w : Bool) (x j k : ℕ) → j % 8 ≡ 0 → k < 8 → (x / 8 * 8 + (j 
 within true x j k e h = omega arith
 within false x j k e h = omega arith
 
-pub cell-codes : (t : Layout) (clear : ℕ) (bank : List ℕ) (j ty tx cell : ℕ) (e : Entry) → j % 8 ≡ 0 → tx ≡ (t .x / 8 * 8 + j) % widthOf (t .wide)
+pub cell-shades : (t : Layout) (shades bank : List ℕ) (j ty tx cell : ℕ) (e : Entry) → j % 8 ≡ 0 → tx ≡ (t .x / 8 * 8 + j) % widthOf (t .wide)
     → cell ≡ cellOf (t .wide) tx ty → e ≡ entryAt t bank cell
-    → tab (λ (k : ℕ). codeOf clear (e .high) (entryPixel t bank e k (ty % 8))) 8
-    ≡ tab (λ (k : ℕ). codeAt t clear bank ((t .x / 8 * 8 + (j + k)) % widthOf (t .wide)) ty) 8
-unfolding codeAt
-cell-codes t clear bank j ty tx cell e z p q r =
+    → tab (λ (k : ℕ). shadeOf shades (e .high) (entryPixel t bank e k (ty % 8))) 8
+    ≡ tab (λ (k : ℕ). shadeAt t shades bank ((t .x / 8 * 8 + (j + k)) % widthOf (t .wide)) ty) 8
+unfolding shadeAt
+cell-shades t shades bank j ty tx cell e z p q r =
     tab-ext _ _ 8 (λ k g. rw (same-column (t .wide) (t .x) j k z g, within (t .wide) (t .x) j k z g, ← p, ← q, ← r))
 
 -- the row before any cell is written
@@ -42,25 +61,25 @@ row-part f out old p j n e q s =
     rw (e, take-at (tab f j) (drop j old) j (length-tab f j), drop-at (tab f j) (drop j old) j (length-tab f j), q, s, drop-drop 8 j old, tab-join f j 8, append-assoc)
 
 -- all cells are written
-pub row-done : (t : Layout) (clear : ℕ) (bank : List ℕ) (y ty j : ℕ) (out old : List ℕ) → ty ≡ tyOf t y → j ≡ rowLength t
-    → out ≡ tab (λ (k : ℕ). codeAt t clear bank ((t .x / 8 * 8 + k) % widthOf (t .wide)) ty) j ++ drop j old
-    → out ≡ tileRow t clear bank y ++ drop (rowLength t) old
+pub row-done : (t : Layout) (shades bank : List ℕ) (y ty j : ℕ) (out old : List ℕ) → ty ≡ tyOf t y → j ≡ rowLength t
+    → out ≡ tab (λ (k : ℕ). shadeAt t shades bank ((t .x / 8 * 8 + k) % widthOf (t .wide)) ty) j ++ drop j old
+    → out ≡ tileRow t shades bank y ++ drop (rowLength t) old
 unfolding tileRow
-row-done t clear bank y ty j out old e q p = rw (← e, ← q) p
+row-done t shades bank y ty j out old e q p = rw (← e, ← q) p
 
 row-within : (w : Bool) (s x : ℕ) → s < 8 → x < widthOf w → s + x < (columnsOf w + 1) * 8
 row-within true s x a h = omega arith
 row-within false s x a h = omega arith
 
 -- what the layer above reads
-pub row-at : (t : Layout) (clear : ℕ) (bank : List ℕ) (y : ℕ) (rest : List ℕ) (x : ℕ) → x < widthOf (t .wide)
-    → getD (tileRow t clear bank y ++ rest) (t .x % 8 + x) 0 ≡ tileCode t clear bank x y
+pub row-at : (t : Layout) (shades bank : List ℕ) (y : ℕ) (rest : List ℕ) (x : ℕ) → x < widthOf (t .wide)
+    → getD (tileRow t shades bank y ++ rest) (t .x % 8 + x) 0 ≡ shadeAt t shades bank (txOf t x) (tyOf t y)
 unfolding tileRow
-row-at t clear bank y rest x h =
-    let f : ℕ → ℕ = λ j. codeAt t clear bank ((t .x / 8 * 8 + j) % widthOf (t .wide)) (tyOf t y) in
+row-at t shades bank y rest x h =
+    let f : ℕ → ℕ = λ j. shadeAt t shades bank ((t .x / 8 * 8 + j) % widthOf (t .wide)) (tyOf t y) in
     let s : t .x % 8 < 8 = omega arith in
     let l : t .x % 8 + x < rowLength t = row-within (t .wide) (t .x % 8) x s h in
     let e : t .x / 8 * 8 + (t .x % 8 + x) ≡ x + t .x = omega arith in
     List·getD-append (tab f (rowLength t)) rest 0 (t .x % 8 + x) (rw length-tab l)
     ∙ getD-tab f (rowLength t) (t .x % 8 + x) l
-    ∙ ap (λ (v : ℕ). codeAt t clear bank (v % widthOf (t .wide)) (tyOf t y)) e
+    ∙ ap (λ (v : ℕ). shadeAt t shades bank (v % widthOf (t .wide)) (tyOf t y)) e

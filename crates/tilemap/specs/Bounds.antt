@@ -1,5 +1,7 @@
 -- The bounds under which the tilemap's functions run; no part of what a dot is.
-use Prim.Native.Nat.{_<_}
+use Prim.Native.Nat.{ℕ, _≤_, _<_}
+use mathlib.Core.List.{List}
+use lib.ListN.{getD}
 use Rattle.tilemap.specs.declared.rule.Layout.{Layout}
 use Rattle.tilemap.specs.declared.rule.Entry.{Entry}
 
@@ -15,3 +17,7 @@ pub record Laid (t : Layout) : Type 0 where
 pub record Bytes (e : Entry) : Type 0 where
   pub low : e .low < 256
   pub high : e .high < 256
+
+-- a table of colours, or 512 where transparent
+pub record Shaded (shades : List ℕ) : Type 0 where
+  pub most : (i : ℕ) → i < 256 → getD shades i 0 ≤ 512

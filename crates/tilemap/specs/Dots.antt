@@ -1,13 +1,12 @@
--- Tilemap dots: transparency, clip, and the row of codes that a line is composed from.
+-- Tilemap dots: transparency and clip.
 use Prim.Native.Nat.{ℕ, _+_, _*_, _/_, _%_}
 use mathlib.Core.List.{List}
 use mathlib.Core.Bool.{Bool, true, false, cond}
 use lib.Dec.{eqb}
-use Rattle.lists.specs.Tab.{tab}
 use Rattle.surface.specs.Dots.{clipped}
 use Rattle.tilemap.specs.declared.rule.Layout.{Layout}
 use Rattle.tilemap.specs.declared.setup.Window.{Window}
-use Rattle.tilemap.specs.Index.{columnsOf, widthOf, txOf, tyOf, cellOf, entryAt, entryPixel, indexOf}
+use Rattle.tilemap.specs.Index.{txOf, tyOf, cellOf, entryAt, entryPixel, indexOf}
 
 -- a tile dot's code: 512 where its pixel equals $4C, else its index, 256 more where the entry's bit 8 is set
 unfoldable pub codeOf : ℕ → ℕ → ℕ → ℕ
@@ -21,14 +20,6 @@ codeAt t clear bank tx ty =
 -- the code at (x, y) of the surface
 abbrev pub tileCode : Layout → ℕ → List ℕ → ℕ → ℕ → ℕ
 tileCode t clear bank x y = codeAt t clear bank (txOf t x) (tyOf t y)
-
--- how many codes a line's cells have: one cell more than the columns
-abbrev pub rowLength : Layout → ℕ
-rowLength t = (columnsOf (t .wide) + 1) * 8
-
--- the codes of a line's cells, from the start of the cell that holds x = 0
-unfoldable pub tileRow : Layout → ℕ → List ℕ → ℕ → List ℕ
-tileRow t clear bank y = tab (λ (j : ℕ). codeAt t clear bank ((t .x / 8 * 8 + j) % widthOf (t .wide)) (tyOf t y)) (rowLength t)
 
 -- x counts dots in 80 columns and pixels in 40
 abbrev pub acrossOf : Bool → ℕ → ℕ

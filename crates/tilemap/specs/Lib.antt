@@ -1,4 +1,5 @@
 pub mod Index
 pub mod Dots
 pub mod Setup
+pub mod Shades
 pub mod Bounds

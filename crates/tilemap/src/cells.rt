@@ -1,51 +1,100 @@
-// The row of a line: the codes of its cells.
+// The row of a line: the shades of its cells.
 ghost use mathlib.Core.Path.{_≡_};
 ghost use mathlib.Core.List.{_++_};
 ghost use Prim.Native.Nat.{ℕ, _+_, _*_, _/_, _%_, _≤_, _<_};
 ghost use lib.ListN.{length, drop};
 ghost use Rattle.lists.specs.Tab.{tab};
-ghost use Rattle.surface.specs.Lines.{isLine};
-ghost use Rattle.tilemap.specs.Index.{columnsOf, widthOf, entryPixel};
-ghost use Rattle.tilemap.specs.Dots.{codeOf, codeAt, rowLength, tileRow, acrossOf};
-ghost use Rattle.tilemap.specs.Bounds.{Laid, Bytes};
+ghost use Rattle.tilemap.specs.Index.{columnsOf, widthOf, mirrored, pixelAt, entryPixel};
+ghost use Rattle.tilemap.specs.Shades.{shadeFrom, shadeOf, shadeAt, rowLength, tileRow};
+ghost use Rattle.tilemap.specs.Bounds.{Laid, Bytes, Shaded};
 use crate::rule::Entry;
 use crate::rule::Layout;
+use crate::rule::Spot;
 use crate::rule::cell_of;
 use crate::rule::down_map;
 use crate::rule::entry_at;
-use crate::rule::entry_pixel;
+use crate::rule::mirror;
+use crate::rule::pixel_at;
+use crate::rule::tile_number;
 use crate::rule::wrapped;
 use surface::LineNumber;
 
-fn code_of(clear: usize, high: usize, pixel: usize) -> u16
-    requires { ⌜ (high < 256) × (pixel < 16) ⌝ }
-    ensures { λ r. ⌜ r ≡ codeOf clear high pixel ⌝ }
+fn shade_from(shades: &[u16; 256], offset: usize, mark: u16, pixel: usize) -> u16
+    requires { ⌜ (Shaded (now shades)) × (offset ≤ 240) × (mark ≤ 1024) × (pixel < 16) ⌝ }
+    ensures { λ r. ⌜ r ≡ shadeFrom (now (shades .entry)) offset mark pixel ⌝ }
 {
-    if pixel == clear {
-        512
-    } else {
-        (high / 16 * 16 + pixel + high % 2 * 256) as u16
-    }
+    let i = offset + pixel;
+    shades[i] + mark
 }
 
-// The eight codes that an entry shows in row y of its cell.
-fn entry_codes(t: Layout, clear: usize, bank: &[u8], e: Entry, y: usize, out: &mut [u16])
-    requires { ⌜ (Laid t) × (Bytes e) × (y < 8) × (length (now bank) ≡ 16384) × (length (now out) ≡ 8) ⌝ }
-    ensures { λ r. ⌜ now (out .exit) ≡ tab (λ (k : ℕ). codeOf clear (e .high) (entryPixel t (now (bank .entry)) e k y)) 8 ⌝ }
+// The eight shades of an entry that is not rotated: row b of its definition, mirrored or not.
+fn straight(
+    bank: &[u8],
+    at: usize,
+    b: usize,
+    flip: bool,
+    shades: &[u16; 256],
+    offset: usize,
+    mark: u16,
+    out: &mut [u16],
+)
+    requires { ⌜ (length (now bank) ≡ 16384) × (at < 32768) × (b < 8) × (Shaded (now shades)) × (offset ≤ 240) × (mark ≤ 1024) × (length (now out) ≡ 8) ⌝ }
+    ensures { λ r. ⌜ now (out .exit) ≡ tab (λ (k : ℕ). shadeFrom (now (shades .entry)) offset mark (pixelAt (now (bank .entry)) at (mirrored flip k) b)) 8 ⌝ }
 {
     for k in 0..8 {
-        out[k] = code_of(clear, e.high, entry_pixel(t, bank, e, k, y));
+        let a = mirror(flip, k);
+        let pixel = pixel_at(bank, at, Spot { column: a, row: b });
+        out[k] = shade_from(shades, offset, mark, pixel);
     }
 }
 
-// The codes of the cell that starts at j of a line's row.
-fn cell_codes(t: Layout, clear: usize, bank: &[u8], j: usize, ty: usize, out: &mut [u16])
-    requires { ⌜ (Laid t) × (j < 648) × (j % 8 ≡ 0) × (ty < 256) × (length (now bank) ≡ 16384) × (length (now out) ≡ 8) ⌝ }
-    ensures { λ r. ⌜ now (out .exit) ≡ tab (λ (k : ℕ). codeAt t clear (now (bank .entry)) ((t .x / 8 * 8 + (j + k)) % widthOf (t .wide)) ty) 8 ⌝ }
+// The eight shades of a rotated entry: column b of its definition, mirrored or not.
+fn rotated(
+    bank: &[u8],
+    at: usize,
+    b: usize,
+    flip: bool,
+    shades: &[u16; 256],
+    offset: usize,
+    mark: u16,
+    out: &mut [u16],
+)
+    requires { ⌜ (length (now bank) ≡ 16384) × (at < 32768) × (b < 8) × (Shaded (now shades)) × (offset ≤ 240) × (mark ≤ 1024) × (length (now out) ≡ 8) ⌝ }
+    ensures { λ r. ⌜ now (out .exit) ≡ tab (λ (k : ℕ). shadeFrom (now (shades .entry)) offset mark (pixelAt (now (bank .entry)) at b (mirrored flip k))) 8 ⌝ }
+{
+    for k in 0..8 {
+        let a = mirror(flip, k);
+        let pixel = pixel_at(bank, at, Spot { column: b, row: a });
+        out[k] = shade_from(shades, offset, mark, pixel);
+    }
+}
+
+// The eight shades that an entry shows in row y of its cell. Its turn, offset and mark are worked out here, once for all eight.
+fn entry_shades(t: Layout, shades: &[u16; 256], bank: &[u8], e: Entry, y: usize, out: &mut [u16])
+    requires { ⌜ (Laid t) × (Shaded (now shades)) × (Bytes e) × (y < 8) × (length (now bank) ≡ 16384) × (length (now out) ≡ 8) ⌝ }
+    ensures { λ r. ⌜ now (out .exit) ≡ tab (λ (k : ℕ). shadeOf (now (shades .entry)) (e .high) (entryPixel t (now (bank .entry)) e k y)) 8 ⌝ }
+{
+    let at = t.definitions + tile_number(t, e) * 32;
+    let turn = e.high / 2 % 8;
+    let b = mirror(turn / 2 % 2 == 1, y);
+    let flip = turn / 4 % 2 != turn % 2;
+    let offset = e.high / 16 * 16;
+    let mark = (e.high % 2 * 1024) as u16;
+    if turn % 2 == 1 {
+        rotated(bank, at, b, flip, shades, offset, mark, out);
+    } else {
+        straight(bank, at, b, flip, shades, offset, mark, out);
+    }
+}
+
+// The shades of the cell that starts at j of a line's row.
+fn cell_shades(t: Layout, shades: &[u16; 256], bank: &[u8], j: usize, ty: usize, out: &mut [u16])
+    requires { ⌜ (Laid t) × (Shaded (now shades)) × (j < 648) × (j % 8 ≡ 0) × (ty < 256) × (length (now bank) ≡ 16384) × (length (now out) ≡ 8) ⌝ }
+    ensures { λ r. ⌜ now (out .exit) ≡ tab (λ (k : ℕ). shadeAt t (now (shades .entry)) (now (bank .entry)) ((t .x / 8 * 8 + (j + k)) % widthOf (t .wide)) ty) 8 ⌝ }
 {
     let tx = wrapped(t.wide, t.x / 8 * 8 + j);
     let e = entry_at(t, bank, cell_of(t.wide, tx, ty));
-    entry_codes(t, clear, bank, e, ty % 8, out);
+    entry_shades(t, shades, bank, e, ty % 8, out);
 }
 
 fn row_length(wide: bool) -> usize
@@ -54,25 +103,18 @@ fn row_length(wide: bool) -> usize
     if wide { 648 } else { 328 }
 }
 
-// Dot k of a line as the x that the tilemap's width counts.
-pub fn across(wide: bool, k: usize) -> usize
-    ensures { λ r. ⌜ r ≡ acrossOf wide k ⌝ }
-{
-    if wide { k } else { k / 2 }
-}
-
-// The codes of a line's cells, one cell more than its columns; what lies after them stays. The code at x stands at
+// The shades of a line's cells, one cell more than its columns; what lies after them stays. The shade at x stands at
 // X offset mod 8 + x.
-pub fn tile_row(t: Layout, clear: usize, bank: &[u8], l: LineNumber, out: &mut [u16])
-    requires { ⌜ (Laid t) × (l .0 < 256) × (length (now bank) ≡ 16384) × (length (now out) ≡ 648) ⌝ }
-    ensures { λ r. ⌜ now (out .exit) ≡ tileRow t clear (now (bank .entry)) (l .0) ++ drop (rowLength t) (now (out .entry)) ⌝ }
+pub fn tile_row(t: Layout, shades: &[u16; 256], bank: &[u8], l: LineNumber, out: &mut [u16])
+    requires { ⌜ (Laid t) × (Shaded (now shades)) × (l .0 < 256) × (length (now bank) ≡ 16384) × (length (now out) ≡ 648) ⌝ }
+    ensures { λ r. ⌜ now (out .exit) ≡ tileRow t (now (shades .entry)) (now (bank .entry)) (l .0) ++ drop (rowLength t) (now (out .entry)) ⌝ }
 {
     let ty = down_map(t, l.0);
     let n = row_length(t.wide);
     let mut j = 0;
     while j < n {
         let e = j + 8;
-        cell_codes(t, clear, bank, j, ty, &mut out[j..e]);
+        cell_shades(t, shades, bank, j, ty, &mut out[j..e]);
         j = e;
     }
 }

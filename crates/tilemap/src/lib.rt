@@ -4,7 +4,6 @@ mod cells;
 mod rule;
 mod setup;
 
-pub use cells::across;
 pub use cells::tile_row;
 pub use rule::Entry;
 pub use rule::Layout;
@@ -14,6 +13,7 @@ pub use rule::entry_pixel;
 pub use rule::fetch;
 pub use rule::half;
 pub use rule::index_at;
+pub use rule::mirror;
 pub use rule::turned;
 pub use setup::Pairs;
 pub use setup::Window;

@@ -77,7 +77,7 @@ pub fn entry_at(t: Layout, bank: &[u8], cell: usize) -> Entry
     Entry { low, high }
 }
 
-fn tile_number(t: Layout, e: Entry) -> usize
+pub fn tile_number(t: Layout, e: Entry) -> usize
     requires { ⌜ Bytes e ⌝ }
     ensures { λ r. ⌜ (r ≡ tileNumber t e) × (r < 512) ⌝ }
 {
@@ -88,7 +88,8 @@ fn tile_number(t: Layout, e: Entry) -> usize
     }
 }
 
-fn mirror(on: bool, v: usize) -> usize
+// A coordinate within the cell, mirrored or not.
+pub fn mirror(on: bool, v: usize) -> usize
     requires { ⌜ v < 8 ⌝ }
     ensures { λ r. ⌜ (r ≡ mirrored on v) × (r < 8) ⌝ }
 {
@@ -121,7 +122,7 @@ pub fn half(x: usize, byte: usize) -> usize
 }
 
 // A pixel of the definition at an address.
-fn pixel_at(bank: &[u8], at: usize, s: Spot) -> usize
+pub fn pixel_at(bank: &[u8], at: usize, s: Spot) -> usize
     requires { ⌜ (length (now bank) ≡ 16384) × (at < 32768) × (s .column < 8) × (s .row < 8) ⌝ }
     ensures { λ r. ⌜ (r ≡ pixelAt (now (bank .entry)) at (s .column) (s .row)) × (r < 16) ⌝ }
 {

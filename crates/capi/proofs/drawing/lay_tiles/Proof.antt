@@ -1,5 +1,5 @@
 -- As for the ULA.
-use Rattle.capi.proofs.Shown.{tiles-shown}
+use Rattle.capi.proofs.Shown.{tiles-shown, colours-shown}
 use Rattle.line.proofs.Bounded.{bounded}
 use Rattle.layout.specs.Record.{stateIn}
 use borrow.Author.Tests.{leb-true}
@@ -24,7 +24,9 @@ colours-at-requires : tie.Need-colours-at-requires
 colours-at-requires c κs = omega (arith, c .before .before .before .before .before .before .before .pre .0 .long)
 
 tiles-over-requires : tie.Need-tiles-over-requires
-tiles-over-requires c κs = let s = c .before .before .before .before .before .before .before .before .before .before .before .before in let b = bounded _ (s .pre .0 .lawful) in let t = c .before .before .before .before .before .before .before .tiles-at .ensures in (rw t (b .xhigh), rw t (b .map), rw t (b .definitions), omega (arith, leb-true (s .args .line .0) 255 (s .pre .1)), s .pre .2, s .pre .3)
+tiles-over-requires c κs = let s = c .before .before .before .before .before .before .before .before .before .before .before .before in let b = bounded _ (s .pre .0 .lawful) in let t = c .before .before .before .before .before .before .before .tiles-at .ensures in
+    let q = colours-shown (s .args .lent .now) _ _ _ t (c .before .before .before .before .before .tile-place .ensures .0) (c .before .before .before .before .colours-at .ensures) (b .first) (b .second) in
+    (rw t (b .xhigh), rw t (b .map), rw t (b .definitions), q, q, omega (arith, leb-true (s .args .line .0) 255 (s .pre .1)), s .pre .2, s .pre .3)
 
 same-length : tie.Need-same-length
 same-length c = search needs

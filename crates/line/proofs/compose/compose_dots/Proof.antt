@@ -1,22 +1,21 @@
 -- The first k dots are composed, the others are as they were.
-use Rattle.lists.proofs.Tab.{tab-none, tab-step, tab-done, getD-tab}
+use Rattle.lists.proofs.Tab.{tab-none, tab-step, tab-done}
 use Rattle.lists.specs.Tab.{tab}
-use mathlib.Core.List.{List}
 use lib.ListN.{length, take, getD, length-set}
 use mathlib.Core.Path.{_≡_, refl, ap, _∙_}
-use Prim.Native.Nat.{ℕ, _-_, _%_, _≤_}
+use Prim.Native.Nat.{ℕ, _-_, _≤_}
 use native.Mathlib.Omega.{arith}
 use borrow.Author.Needs.{needs}
-use Rattle.line.specs.Compose.{composed}
+use Rattle.line.specs.Shades.{shadeOver}
 use Rattle.line.proofs.Layers.{rest-step}
 use Rattle.line.proofs.compose.compose_dots.Statement.{statement}
 use Rattle.line.proofs.compose.compose_dots.Tie as tie
 
 abbrev Inv-loop : tie.InvT-loop
-Inv-loop stencil pal codes colours out₀ k₀ out k = (k ≤ 640) × (length out ≡ 640) × (take k out ≡ tab (λ (j : ℕ). composed stencil pal (getD out₀ j 0) (getD codes j 0)) k) × ((j : ℕ) → k ≤ j → getD out j 0 ≡ getD out₀ j 0)
+Inv-loop stencil dots out₀ k₀ out k = (k ≤ 640) × (length out ≡ 640) × (take k out ≡ tab (λ (j : ℕ). shadeOver stencil (getD out₀ j 0) (getD dots j 0)) k) × ((j : ℕ) → k ≤ j → getD out j 0 ≡ getD out₀ j 0)
 
 abbrev μ-loop : tie.MeasureT-loop
-μ-loop stencil pal codes colours out₀ k₀ out k = 640 - k
+μ-loop stencil dots out₀ k₀ out k = 640 - k
 
 loop-holds : tie.Need-loop-holds Inv-loop μ-loop
 loop-holds c = (search needs, search needs, tab-none _, λ j h. refl)
@@ -24,25 +23,17 @@ loop-holds c = (search needs, search needs, tab-none _, λ j h. refl)
 mul-composed-dot : tie.Need-mul-composed-dot Inv-loop μ-loop
 mul-composed-dot c = search needs
 
-shared-slice-read-composed-dot : tie.Need-shared-slice-read-composed-dot Inv-loop μ-loop
-shared-slice-read-composed-dot c = search needs
+slice-read-composed-dot : tie.Need-slice-read-composed-dot Inv-loop μ-loop
+slice-read-composed-dot c = search needs
 
 mul-composed-dot-2 : tie.Need-mul-composed-dot-2 Inv-loop μ-loop
 mul-composed-dot-2 c = search needs
 
-slice-read-composed-dot : tie.Need-slice-read-composed-dot Inv-loop μ-loop
-slice-read-composed-dot c = search needs
-
-mul-composed-dot-3 : tie.Need-mul-composed-dot-3 Inv-loop μ-loop
-mul-composed-dot-3 c = search needs
-
-shared-slice-read-composed-dot-2 : tie.Need-shared-slice-read-composed-dot-2 Inv-loop μ-loop
-shared-slice-read-composed-dot-2 c = search needs
+shared-slice-read-composed-dot : tie.Need-shared-slice-read-composed-dot Inv-loop μ-loop
+shared-slice-read-composed-dot c = search needs
 
 composed-dot-requires : tie.Need-composed-dot-requires Inv-loop μ-loop
-composed-dot-requires c κs = let s = c .before .before .before .before .before .before .before .before in
-    let k = c .before .before .before .before .loop .k in
-    ap (λ (l : List ℕ). getD l k 0) (s .pre .1) ∙ getD-tab (λ (j : ℕ). getD (s .args .pal .now) (getD (s .args .codes .now) j 0 % 256) 0) 640 k (omega arith)
+composed-dot-requires c κs = search needs
 
 mul-out : tie.Need-mul-out Inv-loop μ-loop
 mul-out c = search needs
@@ -57,9 +48,9 @@ loop-less : tie.Need-loop-less Inv-loop μ-loop
 loop-less c = search needs
 
 loop-again : tie.Need-loop-again Inv-loop μ-loop
-loop-again c = let h = c .before .before .before .before .before .loop in
-    let s = c .before .before .before .before .before .before .before .before .before .args in
-    (search needs, simp length-set (omega arith), tab-step _ _ _ _ (omega arith) (h .inv .2) (c .composed-dot .ensures ∙ ap (λ (v : ℕ). composed (s .stencil) (s .pal .now) v (getD (s .codes .now) (h .k) 0)) (h .inv .3 (h .k) (omega arith))), rest-step (h .out) (s .out .now) (h .k) (c .composed-dot .result) (h .inv .3))
+loop-again c = let h = c .before .before .before .before .loop in
+    let s = c .before .before .before .before .before .before .before .args in
+    (search needs, simp length-set (omega arith), tab-step _ _ _ _ (omega arith) (h .inv .2) (c .composed-dot .ensures ∙ ap (λ (v : ℕ). shadeOver (s .stencil) v (getD (s .dots .now) (h .k) 0)) (h .inv .3 (h .k) (omega arith))), rest-step (h .out) (s .out .now) (h .k) (c .composed-dot .result) (h .inv .3))
 
 same-length : tie.Need-same-length Inv-loop μ-loop
 same-length c = omega arith
@@ -76,11 +67,9 @@ compose-dots-spec =
     μ-loop
     loop-holds
     mul-composed-dot
-    shared-slice-read-composed-dot
-    mul-composed-dot-2
     slice-read-composed-dot
-    mul-composed-dot-3
-    shared-slice-read-composed-dot-2
+    mul-composed-dot-2
+    shared-slice-read-composed-dot
     composed-dot-requires
     mul-out
     slice-write-out

@@ -1,14 +1,11 @@
 -- The tests of the definition, in its order.
-use Rattle.line.specs.Compose.{composed}
+use Rattle.line.specs.Shades.{shadeOver}
 use borrow.Author.Tests.{eq-eqb, ne-eqb}
 use Rattle.lists.proofs.Cond.{if-true, if-false}
 use mathlib.Core.Path.{sym, _∙_}
 use borrow.Author.Needs.{needs}
 use Rattle.line.proofs.compose.composed_dot.Statement.{statement}
 use Rattle.line.proofs.compose.composed_dot.Tie as tie
-
-tile-colour-requires : tie.Need-tile-colour-requires
-tile-colour-requires c κs = search needs
 
 stencil-dot-requires : tie.Need-stencil-dot-requires
 stencil-dot-requires c κs = search needs
@@ -20,22 +17,21 @@ over-requires-2 : tie.Need-over-requires-2
 over-requires-2 c κs = search needs
 
 returns : tie.Need-returns
-unfolding composed
+unfolding shadeOver
 returns c = (cc) ∙ sym (if-true _ _ _ (c .if1 .taken))
 
 returns-2 : tie.Need-returns-2
-unfolding composed
+unfolding shadeOver
 returns-2 c = (cc) ∙ sym (if-false _ _ _ (c .before .if1 .left) ∙ if-true _ _ _ (eq-eqb _ _ (c .if2 .taken)))
 
 returns-3 : tie.Need-returns-3
-unfolding composed
+unfolding shadeOver
 returns-3 c = (cc) ∙ sym (if-false _ _ _ (c .before .if1 .left) ∙ if-false _ _ _ (ne-eqb _ _ (c .if2 .left)))
 
 pub composed-dot-spec : {M : Type 1} → statement M
 composed-dot-spec =
     tie.close
     (tie.spec
-    tile-colour-requires
     stencil-dot-requires
     over-requires
     over-requires-2

@@ -17,7 +17,7 @@ ula-row-requires c κs = let s = c .before .before .before .before .before .befo
 tiles-over-requires : tie.Need-tiles-over-requires
 tiles-over-requires c κs = let s = c .before .before .before .before .before .before .before .before .before .before .before .before .before .before .before .before .before .before .before .before .before .before in
     let b = bounded _ (s .pre .0) in
-    (b .xhigh, b .map, b .definitions, omega (arith, leb-true (s .args .line .0) 255 (s .pre .1)), s .pre .3, ap length (c .before .before .before .before .before .before .before .before .before .ula-row .ensures) ∙ length-tab _ 640)
+    (b .xhigh, b .map, b .definitions, b .first, b .second, omega (arith, leb-true (s .args .line .0) 255 (s .pre .1)), s .pre .3, ap length (c .before .before .before .before .before .before .before .before .before .ula-row .ensures) ∙ length-tab _ 640)
 
 same-length : tie.Need-same-length
 same-length c = search needs

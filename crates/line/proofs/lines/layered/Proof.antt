@@ -1,18 +1,25 @@
--- With a window the tile dots are read from the row of codes; without one the line stays or goes.
-use Rattle.line.proofs.Layers.{layered-on, layered-gone, layered-bare}
+-- With a window the tile dots are read from the row of shades; without one the line stays or goes.
 use mathlib.Core.Path.{_∙_}
+use Rattle.line.proofs.Layers.{layered-on, layered-gone, layered-bare}
+use Rattle.line.proofs.Shaded.{shaded}
 use borrow.Author.Needs.{needs}
+use native.Mathlib.Omega.{arith}
 use Rattle.line.proofs.lines.layered.Statement.{statement}
 use Rattle.line.proofs.lines.layered.Tie as tie
 
-wide-requires : tie.Need-wide-requires
-wide-requires c κs = search needs
+slice-aggregate-shade-palette : tie.Need-slice-aggregate-shade-palette
+slice-aggregate-shade-palette c = search needs
+
+shade-palette-requires : tie.Need-shade-palette-requires
+shade-palette-requires c κs = search needs
 
 slice-aggregate-tile-row : tie.Need-slice-aggregate-tile-row
 slice-aggregate-tile-row c = search needs
 
 tile-row-requires : tie.Need-tile-row-requires
-tile-row-requires c κs = search needs
+tile-row-requires c κs = let b = c .before .before .before in
+    let s = b .before .before .before .before .before in
+    (s .pre .0, shaded _ (s .args .pal .now) (s .args .clear) (b .shade-palette .ensures) (s .pre .1), s .pre .2, s .pre .3, search needs)
 
 slice-aggregate-compose-row : tie.Need-slice-aggregate-compose-row
 slice-aggregate-compose-row c = search needs
@@ -27,9 +34,13 @@ same-length : tie.Need-same-length
 same-length c = search needs
 
 returns : tie.Need-returns
-returns c = let b = c .before .before .before .before .before .before .before in
-    let s = c .before .before .before .before .before .before .before .before .before .before .before .before .before .args in
-    c .before .before .compose-row .ensures ∙ layered-on (s .t) (s .w) (s .clear) (s .stencil) (s .pal .now) (s .bank .now) (s .out .now) (s .line .0) _ _ _ (b .before .before .before .if1 .taken) (b .tile-row .ensures) (b .before .before .wide .ensures .0)
+returns c = let r = c .before .before in
+    let l = r .before .before .before .before .before in
+    let h = l .before .before .before .before in
+    let s = h .before .before .before .before .before in
+    let a = s .args in
+    r .compose-row .ensures
+    ∙ layered-on (a .t) (a .w) (a .clear) (a .stencil) (a .pal .now) (a .bank .now) (a .out .now) (a .line .0) _ _ _ (h .before .before .if1 .taken) (s .pre .0) (s .pre .1) (λ i. omega (arith, h .before .before .before .before .shared-slice-known .given i)) (h .shade-palette .ensures) (l .tile-row .ensures)
 
 same-length-2 : tie.Need-same-length-2
 same-length-2 c = search needs
@@ -41,13 +52,14 @@ returns-2 c = let s = c .before .before .before .before .before .before .before 
 returns-3 : tie.Need-returns-3
 returns-3 c = let s = c .before .before .before .before in
     let a = s .args in
-    layered-bare (a .t) (a .w) (a .clear) (a .stencil) (a .pal .now) (a .bank .now) (a .out .now) (a .line .0) (s .pre .3) (c .before .if1 .left) (c .if2 .left)
+    layered-bare (a .t) (a .w) (a .clear) (a .stencil) (a .pal .now) (a .bank .now) (a .out .now) (a .line .0) (s .pre .4) (c .before .if1 .left) (c .if2 .left)
 
 pub layered-spec : {M : Type 1} → statement M
 layered-spec =
     tie.close
     (tie.spec
-    wide-requires
+    slice-aggregate-shade-palette
+    shade-palette-requires
     slice-aggregate-tile-row
     tile-row-requires
     slice-aggregate-compose-row

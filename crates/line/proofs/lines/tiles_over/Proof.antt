@@ -1,7 +1,9 @@
 -- Each part is what its call ensures.
 use mathlib.Core.Path.{ap, _∙_}
 use Rattle.tilemap.specs.Setup.{layoutOf}
+use Rattle.state.specs.Bits.{tileSecondShown}
 use Rattle.line.proofs.Layers.{tiles-of}
+use Rattle.line.proofs.Shaded.{shown-colours}
 use borrow.Author.Needs.{needs}
 use Rattle.line.proofs.lines.tiles_over.Statement.{statement}
 use Rattle.line.proofs.lines.tiles_over.Tie as tie
@@ -22,7 +24,9 @@ stencil-on-requires : tie.Need-stencil-on-requires
 stencil-on-requires c κs = search needs
 
 layered-requires : tie.Need-layered-requires
-layered-requires c κs = search needs
+layered-requires c κs = let p = c .before .before .before .before .before in
+    let s = p .before .before .before in
+    (c .before .before .layout-of .ensures .1, shown-colours (tileSecondShown (s .args .t)) _ (s .args .first .now) (s .args .second .now) (p .tile-palette .ensures) (s .pre .3) (s .pre .4), s .pre .5, s .pre .6, s .pre .7)
 
 same-length : tie.Need-same-length
 same-length c = search needs

@@ -1,6 +1,6 @@
--- The loop of `tile_row`: the codes below j are right, and what lies after them is as it was.
+-- The loop of `tile_row`: the shades below j are right, and what lies after them is as it was.
 use Rattle.tilemap.proofs.Rows.{row-none, row-part, row-done}
-use Rattle.tilemap.specs.Dots.{codeAt, rowLength}
+use Rattle.tilemap.specs.Shades.{shadeAt, rowLength}
 use Rattle.tilemap.specs.Index.{widthOf}
 use Rattle.lists.specs.Tab.{tab}
 use lib.ListN.{length, drop}
@@ -13,12 +13,12 @@ use Rattle.tilemap.proofs.cells.tile_row.Statement.{statement}
 use Rattle.tilemap.proofs.cells.tile_row.Tie as tie
 
 abbrev Inv-loop : tie.InvT-loop
-Inv-loop t clear bank out₀ ty n j₀ out j =
+Inv-loop t shades bank out₀ ty n j₀ out j =
     (j ≤ n) × (j % 8 ≡ 0) × (n ≡ rowLength t) × (n % 8 ≡ 0) × (n ≤ 648) × (ty < 256) × (length out ≡ 648)
-    × (out ≡ tab (λ (k : ℕ). codeAt t clear bank ((t .x / 8 * 8 + k) % widthOf (t .wide)) ty) j ++ drop j out₀)
+    × (out ≡ tab (λ (k : ℕ). shadeAt t shades bank ((t .x / 8 * 8 + k) % widthOf (t .wide)) ty) j ++ drop j out₀)
 
 abbrev μ-loop : tie.MeasureT-loop
-μ-loop t clear bank out₀ ty n j₀ out j = n - j
+μ-loop t shades bank out₀ ty n j₀ out j = n - j
 
 down-map-requires : tie.Need-down-map-requires Inv-loop μ-loop
 down-map-requires c κs = search needs
@@ -32,20 +32,20 @@ loop-holds c = (search needs, search needs, search needs, search needs, search n
 add-e : tie.Need-add-e Inv-loop μ-loop
 add-e c = search needs
 
-mul-cell-codes : tie.Need-mul-cell-codes Inv-loop μ-loop
-mul-cell-codes c = search needs
+mul-cell-shades : tie.Need-mul-cell-shades Inv-loop μ-loop
+mul-cell-shades c = search needs
 
-sub-cell-codes : tie.Need-sub-cell-codes Inv-loop μ-loop
-sub-cell-codes c = search needs
+sub-cell-shades : tie.Need-sub-cell-shades Inv-loop μ-loop
+sub-cell-shades c = search needs
 
-part-cell-codes-start : tie.Need-part-cell-codes-start Inv-loop μ-loop
-part-cell-codes-start c = search needs
+part-cell-shades-start : tie.Need-part-cell-shades-start Inv-loop μ-loop
+part-cell-shades-start c = search needs
 
-part-cell-codes-end : tie.Need-part-cell-codes-end Inv-loop μ-loop
-part-cell-codes-end c = search needs
+part-cell-shades-end : tie.Need-part-cell-shades-end Inv-loop μ-loop
+part-cell-shades-end c = search needs
 
-cell-codes-requires : tie.Need-cell-codes-requires Inv-loop μ-loop
-cell-codes-requires c κs = search needs
+cell-shades-requires : tie.Need-cell-shades-requires Inv-loop μ-loop
+cell-shades-requires c κs = search needs
 
 loop-less : tie.Need-loop-less Inv-loop μ-loop
 loop-less c = search needs
@@ -53,7 +53,7 @@ loop-less c = search needs
 loop-again : tie.Need-loop-again Inv-loop μ-loop
 loop-again c = let h = c .before .before .before .before .before .loop in
     let e : h .j + 8 - h .j ≡ 8 = omega arith in
-    (search needs, omega arith, search needs, search needs, search needs, search needs, search needs, row-part _ _ _ _ _ _ (h .inv .7) (c .before .before .cell-codes .ensures) e)
+    (search needs, omega arith, search needs, search needs, search needs, search needs, search needs, row-part _ _ _ _ _ _ (h .inv .7) (c .before .before .cell-shades .ensures) e)
 
 same-length : tie.Need-same-length Inv-loop μ-loop
 same-length c = search needs
@@ -71,11 +71,11 @@ tile-row-spec =
     row-length-requires
     loop-holds
     add-e
-    mul-cell-codes
-    sub-cell-codes
-    part-cell-codes-start
-    part-cell-codes-end
-    cell-codes-requires
+    mul-cell-shades
+    sub-cell-shades
+    part-cell-shades-start
+    part-cell-shades-end
+    cell-shades-requires
     loop-less
     loop-again
     same-length

@@ -1,6 +1,6 @@
--- The loop of `entry_codes`: the first k codes are right.
-use Rattle.tilemap.specs.Dots.{codeOf}
-use Rattle.tilemap.specs.Index.{entryPixel}
+-- The loop of `straight`: the first k shades are right.
+use Rattle.tilemap.specs.Index.{mirrored, pixelAt}
+use Rattle.tilemap.specs.Shades.{shadeFrom}
 use Rattle.lists.proofs.Tab.{tab-none, tab-step, tab-done}
 use Rattle.lists.specs.Tab.{tab}
 use lib.ListN.{length, take, length-set}
@@ -8,23 +8,26 @@ use mathlib.Core.Path.{_≡_}
 use Prim.Native.Nat.{ℕ, _≤_, _-_}
 use native.Mathlib.Omega.{arith}
 use borrow.Author.Needs.{needs}
-use Rattle.tilemap.proofs.cells.entry_codes.Statement.{statement}
-use Rattle.tilemap.proofs.cells.entry_codes.Tie as tie
+use Rattle.tilemap.proofs.cells.straight.Statement.{statement}
+use Rattle.tilemap.proofs.cells.straight.Tie as tie
 
 abbrev Inv-loop : tie.InvT-loop
-Inv-loop t clear bank e y out₀ k₀ out k = (k ≤ 8) × (length out ≡ 8) × (take k out ≡ tab (λ (j : ℕ). codeOf clear (e .high) (entryPixel t bank e j y)) k)
+Inv-loop bank at b flip shades offset mark out₀ k₀ out k = (k ≤ 8) × (length out ≡ 8) × (take k out ≡ tab (λ (j : ℕ). shadeFrom shades offset mark (pixelAt bank at (mirrored flip j) b)) k)
 
 abbrev μ-loop : tie.MeasureT-loop
-μ-loop t clear bank e y out₀ k₀ out k = 8 - k
+μ-loop bank at b flip shades offset mark out₀ k₀ out k = 8 - k
 
 loop-holds : tie.Need-loop-holds Inv-loop μ-loop
 loop-holds c = (search needs, search needs, tab-none _)
 
-entry-pixel-requires : tie.Need-entry-pixel-requires Inv-loop μ-loop
-entry-pixel-requires c κs = search needs
+mirror-requires : tie.Need-mirror-requires Inv-loop μ-loop
+mirror-requires c κs = search needs
 
-code-of-requires : tie.Need-code-of-requires Inv-loop μ-loop
-code-of-requires c κs = search needs
+pixel-at-requires : tie.Need-pixel-at-requires Inv-loop μ-loop
+pixel-at-requires c κs = search needs
+
+shade-from-requires : tie.Need-shade-from-requires Inv-loop μ-loop
+shade-from-requires c κs = search needs
 
 mul-out : tie.Need-mul-out Inv-loop μ-loop
 mul-out c = search needs
@@ -39,7 +42,7 @@ loop-less : tie.Need-loop-less Inv-loop μ-loop
 loop-less c = search needs
 
 loop-again : tie.Need-loop-again Inv-loop μ-loop
-loop-again c = let h = c .before .before .before .loop in (search needs, simp length-set (omega arith), tab-step _ _ _ _ (omega arith) (h .inv .2) (cc))
+loop-again c = let h = c .before .before .before .before .loop in (search needs, simp length-set (omega arith), tab-step _ _ _ _ (omega arith) (h .inv .2) (cc))
 
 same-length : tie.Need-same-length Inv-loop μ-loop
 same-length c = search needs
@@ -47,15 +50,16 @@ same-length c = search needs
 returns : tie.Need-returns Inv-loop μ-loop
 returns c = let h = c .before .loop in let e : h .k ≡ 8 = omega arith in tab-done _ _ 8 (h .inv .1) (rw e at (h .inv .2))
 
-pub entry-codes-spec : {M : Type 1} → statement M
-entry-codes-spec =
+pub straight-spec : {M : Type 1} → statement M
+straight-spec =
     tie.close
     (tie.spec
     Inv-loop
     μ-loop
     loop-holds
-    entry-pixel-requires
-    code-of-requires
+    mirror-requires
+    pixel-at-requires
+    shade-from-requires
     mul-out
     slice-write-out
     add-k
