@@ -1,21 +1,21 @@
 -- Cells and their turns: a cell's bytes and pixels, what it is for one cell to be another turned, and that this goes on
 -- from cell to cell.
-use mathlib.Core.Path.{_≡_, refl, sym, ap, ap₂, _∙_}
+use mathlib.Core.Path.{_≡_, refl, sym, ap₂, _∙_}
 use mathlib.Core.List.{List}
 use mathlib.Core.Bool.{Bool, true, false, cond}
 use Prim.Native.Nat.{ℕ, _+_, _*_, _/_, _%_, _<_}
 use native.Mathlib.Omega.{arith}
 use lib.Dec.{eqb}
+use lib.ListN.{length, getD, take, set, length-set}
 use borrow.Author.Tests.{eqb-true, eq-eqb}
-use Rattle.lists.specs.Search.{least, some, all}
 use Rattle.lists.proofs.Search.{all-at, all-of, some-of, some-at}
 use Rattle.lists.specs.Tab.{tab}
-use Rattle.lists.proofs.Tab.{getD-tab, tab-ext}
+use Rattle.lists.proofs.Tab.{getD-tab, length-tab, tab-ext, tab-step}
 use Rattle.tilemap.specs.Index.{columnOf, rowOf, halfOf}
 use Rattle.classes.specs.Picture.{pixelOf, cellPixel, cellByte, cellPixels, pixelIn}
 use Rattle.classes.specs.Turned.{turnedAt, turnedRow, turnedInto, canMake, canTurn}
-use Rattle.classes.specs.Claims.{After}
 use Rattle.classes.proofs.Group.{composed, divided, column-small, row-small}
+use Rattle.classes.proofs.Claims.{turnsUndone, turnNone}
 
 -- the pixel at x is a half of the byte it is in
 pub pixel-half : (pic : List ℕ) (c x y : ℕ) → x < 8 → cellPixel pic c x y ≡ halfOf x (cellByte pic c (y * 4 + x / 2))
@@ -28,31 +28,57 @@ pixel-half pic c x y h =
     rw (line, byte, e, f)
 
 -- a byte's two pixels
-module _ (pic : List ℕ) (c y k b : ℕ) (l : k < 4) (q : b ≡ cellByte pic c (y * 4 + k)) where
-  pub pixel-left : b < 256 → b / 16 ≡ cellPixel pic c (k * 2) y
+module _ (bs : List ℕ) (k : ℕ) where
+  pub half-left : getD bs k 0 < 256 → getD bs k 0 / 16 ≡ halfOf (k * 2) (getD bs (k * 2 / 2) 0)
   unfolding halfOf
-  pixel-left h =
+  half-left h =
       let e : k * 2 / 2 ≡ k = omega arith in
       let z : k * 2 % 2 ≡ 0 = omega arith in
-      let d : b / 16 % 16 ≡ b / 16 = omega arith in
-      sym (rw (pixel-half pic c (k * 2) y (omega arith), e, z, ← q) d)
+      let d : getD bs k 0 / 16 % 16 ≡ getD bs k 0 / 16 = omega arith in
+      sym (rw (e, z) d)
 
-  pub pixel-right : b % 16 ≡ cellPixel pic c (k * 2 + 1) y
+  pub half-right : getD bs k 0 % 16 ≡ halfOf (k * 2 + 1) (getD bs ((k * 2 + 1) / 2) 0)
   unfolding halfOf
-  pixel-right =
+  half-right =
       let e : (k * 2 + 1) / 2 ≡ k = omega arith in
       let z : (k * 2 + 1) % 2 ≡ 1 = omega arith in
-      sym (rw (pixel-half pic c (k * 2 + 1) y (omega arith), e, z, ← q))
+      sym (rw (e, z) refl)
 
--- a row of a cell is eight of its pixels
-pub row-of : (pic : List ℕ) (c y a : ℕ) → a ≡ y * 8
-    → tab (λ (x : ℕ). cellPixel pic c x y) 8 ≡ tab (λ (k : ℕ). cellPixel pic c ((a + k) % 8) ((a + k) / 8)) 8
-row-of pic c y a e =
-    tab-ext _ _ 8
-    (λ k g.
-    let ex : (a + k) % 8 ≡ k = omega arith in
-    let ey : (a + k) / 8 ≡ y = omega arith in
-    rw (ex, ey))
+-- byte k of the four of line y, at its place in the picture
+pub byte-at : (pic : List ℕ) (c y k j i : ℕ) → k < 4 → j ≡ c / 40 * 1280 + c % 40 * 4 + y * 160 + k → i ≡ y * 4 + k → getD pic j 0 ≡ cellByte pic c i
+unfolding cellByte
+byte-at pic c y k j i h ej ei =
+    let line : i / 4 ≡ y = omega arith in
+    let byte : i % 4 ≡ k = omega arith in
+    let e : j ≡ (c / 40 * 8 + y) * 160 + c % 40 * 4 + k = omega arith in
+    rw (line, byte, e)
+
+-- four stores at 4 y to 4 y + 3
+module _ (f : ℕ → ℕ) where
+  one-more : (l : List ℕ) (i j a : ℕ) → i < length l → take i l ≡ tab f i → a ≡ f i → j ≡ i + 1 → take j (set l i a) ≡ tab f j
+  one-more l i j a h p q e = rw e (tab-step f l i a h p q)
+
+  pub four-more : (l : List ℕ) (y a b c d : ℕ) → y * 4 + 3 < length l → take (y * 4) l ≡ tab f (y * 4)
+      → a ≡ f (y * 4) → b ≡ f (y * 4 + 1) → c ≡ f (y * 4 + 2) → d ≡ f (y * 4 + 3)
+      → take ((y + 1) * 4) (set (set (set (set l (y * 4) a) (y * 4 + 1) b) (y * 4 + 2) c) (y * 4 + 3) d) ≡ tab f ((y + 1) * 4)
+  four-more l y a b c d h p qa qb qc qd =
+      one-more (set (set (set l (y * 4) a) (y * 4 + 1) b) (y * 4 + 2) c) (y * 4 + 3) ((y + 1) * 4) d (simp length-set h)
+      (one-more (set (set l (y * 4) a) (y * 4 + 1) b) (y * 4 + 2) (y * 4 + 3) c (simp length-set (omega arith))
+      (one-more (set l (y * 4) a) (y * 4 + 1) (y * 4 + 2) b (simp length-set (omega arith))
+      (one-more l (y * 4) (y * 4 + 1) a (omega arith) p qa refl) qb (omega arith)) qc (omega arith)) qd (omega arith)
+
+-- the halves of a cell's bytes are its pixels
+pub pixels-of : (pic : List ℕ) (c : ℕ) (bs : List ℕ) → bs ≡ tab (cellByte pic c) 32
+    → tab (λ (i : ℕ). halfOf i (getD bs (i / 2) 0)) (length bs * 2) ≡ cellPixels pic c
+unfolding cellPixels halfOf
+pixels-of pic c bs q =
+    rw (q, length-tab (cellByte pic c) 32)
+    (tab-ext _ _ 64
+    (λ i l.
+    let b : i / 2 < 32 = omega arith in
+    let e : i / 8 * 4 + i % 8 / 2 ≡ i / 2 = omega arith in
+    let z : i % 8 % 2 ≡ i % 2 = omega arith in
+    sym (rw (pixel-half pic c (i % 8) (i / 8) (omega arith), e, z, getD-tab (cellByte pic c) 32 (i / 2) b))))
 
 pub half-small : (x b : ℕ) → halfOf x b < 16
 unfolding halfOf
@@ -134,3 +160,22 @@ can-trans pic d c e h k =
     (λ x y hx hy.
     v .2 x y hx hy ∙ w .2 (columnOf u x y) (rowOf u x y) (column-small u x y hx hy) (row-small u x y hx hy)
     ∙ ap₂ (cellPixel pic d) (z .2 .columns x y hx hy) (z .2 .rows x y hx hy))
+
+-- two cells that can be turned into a third: the one into the other
+pub can-both : (a b c : List ℕ) → canMake a c ≡ true → canMake b c ≡ true → canMake a b ≡ true
+unfolding canMake
+can-both a b c h k =
+    let w = some-at (turnedInto a c) 8 h in
+    let v = some-at (turnedInto b c) 8 k in
+    let back = turnsUndone (v .0) (v .1) in
+    let s = back .0 in
+    let z = composed (w .0) s (w .1) (back .1) in
+    some-of (turnedInto a b) 8 (z .0) (z .1)
+    (made-of a b (z .0)
+    (λ x y hx hy.
+    let lx = column-small s x y hx hy in
+    let ly = row-small s x y hx hy in
+    sym (ap₂ (pixelIn b) (back .2 .columns x y hx hy ∙ turnNone x y .0) (back .2 .rows x y hx hy ∙ turnNone x y .1))
+    ∙ sym (made-at b c (v .0) (v .2) (columnOf s x y) (rowOf s x y) lx ly)
+    ∙ made-at a c (w .0) (w .2) (columnOf s x y) (rowOf s x y) lx ly
+    ∙ ap₂ (pixelIn a) (z .2 .columns x y hx hy) (z .2 .rows x y hx hy)))

@@ -47,7 +47,7 @@ divided t u h k =
     let w = some-at (λ s. after t s u) 8 (all-at (λ u. some (λ s. after t s u) 8) 8 (all-at (λ t. all (λ u. some (λ s. after t s u) 8) 8) 8 divided-test t h) u k) in
     (w .0, w .1, after-is t (w .0) u (w .2))
 
-mirrored-small : (b : Bool) (v : ℕ) → v < 8 → mirrored b v < 8
+pub mirrored-small : (b : Bool) (v : ℕ) → v < 8 → mirrored b v < 8
 mirrored-small true v h = omega arith
 mirrored-small false v h = h
 

@@ -3,14 +3,14 @@
 use mathlib.Core.Path.{_≡_, refl, sym, ap, _∙_}
 use mathlib.Core.List.{List}
 use mathlib.Core.Bool.{Bool, true, false, cond, not}
-use Prim.Native.Nat.{ℕ, _+_, _-_, _*_, _/_, _%_, _≤_, _<_}
+use Prim.Native.Nat.{ℕ, _+_, _-_, _*_, _/_, _%_, _<_}
 use native.Mathlib.Omega.{arith}
 use lib.Dec.{lit<, eqb}
-use Rattle.lists.proofs.Search.{least-none}
+use Rattle.lists.proofs.Search.{least-none, some-at}
 use Rattle.tilemap.specs.Index.{columnOf, rowOf, mirrored}
 use Rattle.classes.specs.Picture.{pixelIn}
-use Rattle.classes.specs.Turned.{turnedInto, turnFor}
-use Rattle.classes.specs.Mark.{total, weight, weightAt, markTerm, markOf}
+use Rattle.classes.specs.Turned.{turnedInto, turnFor, canMake}
+use Rattle.classes.specs.Mark.{total, weight, weightAt, shareOf, markTerm, markOf}
 use Rattle.classes.proofs.Cells.{made-at}
 
 -- the four pixels that mirrors make of (u, v), added
@@ -71,13 +71,22 @@ quarter-turned C D true q = omega (arith, q 0 0 (lit< tt) (lit< tt), q 0 1 (lit<
 mark-turned : (C D : ℕ → ℕ → ℕ) (t : ℕ) → ((x y : ℕ) → x < 8 → y < 8 → C x y ≡ D (columnOf t x y) (rowOf t x y)) → marked C ≡ marked D
 mark-turned C D t h = marked-quarter C ∙ quarter-turned C D (eqb (t % 2) 1) (λ u v hu hv. four-turned C D t u v hu hv h) ∙ sym (marked-quarter D)
 
-mark-cell : (cell : List ℕ) → markOf cell ≡ marked (pixelIn cell)
-unfolding markOf marked markTerm total
+shares : List ℕ → ℕ → ℕ → ℕ
+shares cell x y = shareOf (pixelIn cell x y)
+
+mark-cell : (cell : List ℕ) → markOf cell ≡ marked (shares cell)
+unfolding markOf marked markTerm total shares
 mark-cell cell = refl
 
-pub mark-same : (from cell : List ℕ) (t : ℕ) → turnedInto from cell t ≡ true → markOf from ≡ markOf cell
+mark-same : (from cell : List ℕ) (t : ℕ) → turnedInto from cell t ≡ true → markOf from ≡ markOf cell
+unfolding shares
 mark-same from cell t e =
-    mark-cell from ∙ sym (mark-turned (pixelIn cell) (pixelIn from) t (made-at from cell t e)) ∙ sym (mark-cell cell)
+    mark-cell from ∙ sym (mark-turned (shares cell) (shares from) t (λ x y h k. ap shareOf (made-at from cell t e x y h k))) ∙ sym (mark-cell cell)
+
+-- a cell has the mark of those that can be turned into it
+pub mark-made : (from cell : List ℕ) → canMake from cell ≡ true → markOf from ≡ markOf cell
+unfolding canMake
+mark-made from cell e = let w = some-at (turnedInto from cell) 8 e in mark-same from cell (w .0) (w .2)
 
 -- cells with different marks cannot be turned into each other
 pub unmarked : (from cell : List ℕ) → (markOf from ≡ markOf cell → ⊥) → 8 ≡ turnFor from cell

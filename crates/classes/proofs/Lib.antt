@@ -1,4 +1,5 @@
 pub mod Group
-pub mod Cells
-pub mod Kept
 pub mod Claims
+pub mod Cells
+pub mod Rows
+pub mod Kept

@@ -1,4 +1,5 @@
 pub mod Picture
 pub mod Turned
+pub mod Rows
 pub mod Mark
 pub mod Claims

@@ -22,9 +22,13 @@ weight u v = 1 + 37 * (u + v) + 1009 * u * v
 unfoldable pub weightAt : ℕ → ℕ
 weightAt i = weight (edge (i % 8)) (edge (i / 8))
 
--- the mark of a cell of 64 pixels: its weighted pixels, added
+-- a pixel's share: its square, since nearly equal cells often have equal sums of plain pixels
+unfoldable pub shareOf : ℕ → ℕ
+shareOf v = v % 16 * (v % 16)
+
+-- the mark of a cell of 64 pixels: the shares of its pixels, weighted and added
 unfoldable pub markTerm : List ℕ → ℕ → ℕ
-markTerm cell i = weightAt i * getD cell i 0
+markTerm cell i = weightAt i * shareOf (getD cell i 0)
 
 unfoldable pub markOf : List ℕ → ℕ
 markOf cell = total (markTerm cell) 64

@@ -1,5 +1,5 @@
 // The cells of a picture, and which of them can be turned into each other. Every call here asks for a picture of 40,960
-// bytes and for cells below 1,280: packing judges the picture first.
+// bytes and for cells below 1,280, or for unpacked cells of 64 pixels: packing judges the picture first.
 mod marks;
 mod pixels;
 mod turns;
@@ -7,5 +7,5 @@ mod turns;
 pub use marks::mark;
 pub use pixels::cell_byte;
 pub use pixels::unpack;
-pub use turns::turn_for;
+pub use turns::flip;
 pub use turns::turn_marked;

@@ -3,7 +3,7 @@ ghost use mathlib.Core.Path.{_≡_};
 ghost use Prim.Native.Nat.{_<_, _≤_};
 ghost use lib.ListN.{length};
 ghost use Rattle.lists.specs.Tab.{tab};
-ghost use Rattle.classes.specs.Mark.{weightAt, markTerm, markOf};
+ghost use Rattle.classes.specs.Mark.{weightAt, shareOf, markTerm, markOf};
 
 // A weight for each pixel, the same for those that turns exchange.
 const WEIGHTS: [u32; 64] = [
@@ -73,17 +73,18 @@ const WEIGHTS: [u32; 64] = [
     1,
 ];
 
-fn pixel(b: u8) -> u32
-    ensures { λ r. ⌜ (r ≡ b) × (r ≤ 255) ⌝ }
+fn square(b: u8) -> u32
+    ensures { λ r. ⌜ (r ≡ shareOf b) × (r ≤ 225) ⌝ }
 {
-    b as u32
+    let p = b as u32 % 16;
+    p * p
 }
 
 fn mark_term(cell: &[u8], weights: &[u32], i: usize) -> u32
     requires { ⌜ (length (now cell) ≡ 64) × (now weights ≡ tab weightAt 64) × (i < 64) ⌝ }
-    ensures { λ r. ⌜ (r ≡ markTerm (now (cell .entry)) i) × (r ≤ 2550000) ⌝ }
+    ensures { λ r. ⌜ (r ≡ markTerm (now (cell .entry)) i) × (r ≤ 2093400) ⌝ }
 {
-    weights[i] * pixel(cell[i])
+    weights[i] * square(cell[i])
 }
 
 fn sum(cell: &[u8], weights: &[u32]) -> u32

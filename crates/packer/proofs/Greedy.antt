@@ -1,6 +1,6 @@
 -- The packing's definitions: how many they are, that each cell is one of them turned, and that the definition of a tile
 -- number was taken from a cell with that number. By induction on the cells taken.
-use mathlib.Core.Path.{_≡_, refl, sym, ap, ap₂, _∙_, subst}
+use mathlib.Core.Path.{_≡_, refl, sym, ap₂, _∙_, subst}
 use mathlib.Core.List.{List, [], _∷_, _++_}
 use mathlib.Core.Bool.{Bool, true, false, cond}
 use mathlib.Core.Logic.{⊎-elim}
@@ -12,17 +12,13 @@ use lib.Dec.{ltb}
 use lib.ListN.{length, getD, length-append, List·getD-append}
 use lib.Seq.{getD-append-seam}
 use borrow.Author.Tests.{ltb-true, ltb-false}
-use Rattle.lists.specs.Search.{least, some, firsts}
-use Rattle.lists.proofs.Search.{Found, least-found, some-of, some-at, not-both}
+use Rattle.lists.specs.Search.{some, firsts}
+use Rattle.lists.proofs.Search.{Found, least-found, some-of, some-at}
 use Rattle.classes.specs.Picture.{cellPixels}
 use Rattle.classes.specs.Turned.{turnedInto, turnFor, canMake, canTurn}
 use Rattle.classes.proofs.Cells.{can-self, can-trans}
+use Rattle.classes.proofs.Rows.{bool-same}
 use Rattle.packer.specs.Greedy.{placeIn, defCells, tileOf, sourceOf, cellTurn}
-
-pub bool-same : (a b : Bool) → (a ≡ true → b ≡ true) → (b ≡ true → a ≡ true) → a ≡ b
-bool-same true b h k = sym (h refl)
-bool-same false true h k = absurd (not-both (k refl) refl)
-bool-same false false h k = refl
 
 -- what a step keeps
 module _ (ds : List ℕ) (c : ℕ) where

@@ -2,8 +2,9 @@
 use mathlib.Core.Path.{_≡_, refl, sym, ap, ap₂, _∙_, subst}
 use mathlib.Core.List.{List, [], _∷_, _++_}
 use mathlib.Core.Logic.{⊎-elim}
-use Prim.Native.Nat.{ℕ, zero, suc, _+_, _*_, _/_, _%_, _≤_, _<_}
+use Prim.Native.Nat.{ℕ, suc, _+_, _*_, _/_, _%_, _≤_, _<_}
 use native.Mathlib.Nat.{not-suc-le-zero, eq-or-lt-of-le}
+use native.Mathlib.Numerals.{add-one}
 use native.Mathlib.Omega.{arith}
 use lib.ListN.{length, getD, set, length-append, length-set, List·getD-append}
 use lib.Seq.{getD-append-seam, getD-set-same, getD-set-other}
@@ -13,12 +14,11 @@ use Rattle.lists.proofs.Search.{least-same, least-here, below}
 use Rattle.tilemap.specs.Index.{columnOf, rowOf}
 use Rattle.classes.specs.Picture.{cellPixels}
 use Rattle.classes.specs.Turned.{turnedInto, turnFor, canMake}
-use Rattle.classes.specs.Mark.{markOf}
 use Rattle.classes.proofs.Cells.{Shows, turned-of}
 use Rattle.packer.specs.declared.place.Place.{Place}
 use Rattle.packer.specs.Greedy.{placeIn, defCells, tileOf, sourceOf, cellTurn, mapByte}
-use Rattle.packer.specs.Bounds.{Listed, Found, Progress}
-use Rattle.packer.proofs.Greedy.{cells-below}
+use Rattle.packer.specs.Bounds.{Listed, Slotted, Found, Progress}
+use Rattle.packer.proofs.Listing.{pair-more}
 
 defs-old : (pic : List ℕ) (c : ℕ) → tileOf pic c < length (defCells pic c) → defCells pic (suc c) ≡ defCells pic c
 unfolding defCells tileOf
@@ -48,29 +48,32 @@ entry-more f map c a b fits h ha hb i l =
     (eq-or-lt-of-le k'))
     (eq-or-lt-of-le w)
 
-module _ (pic : List ℕ) (offset : ℕ) (cells marks map : List ℕ) (n c : ℕ) (p : Place) (g : Progress pic offset cells marks map n c)
-    (here : Found pic cells (cellPixels pic c) n p) where
+module _ (pic : List ℕ) (offset : ℕ) (cells : List ℕ) (pixels flips : List (List ℕ)) (marks slots map : List ℕ) (n c : ℕ) (cell : List ℕ) (p : Place)
+    (g : Progress pic offset cells pixels flips marks slots map n c) (ec : cell ≡ cellPixels pic c) (here : Found pixels cell n p) where
+  source-is : (k : ℕ) → k < n → getD pixels k [] ≡ cellPixels pic (getD (defCells pic c) k 0)
+  source-is k l = g .taken k l ∙ ap (cellPixels pic) (g .placed .same k l)
+
   tile-is : p .tile ≡ tileOf pic c
   unfolding tileOf placeIn
   tile-is =
       here .tile-is
-      ∙ least-same (λ k. canMake (cellPixels pic (getD cells k 0)) (cellPixels pic c)) (λ k. canMake (cellPixels pic (getD (defCells pic c) k 0)) (cellPixels pic c)) n
-      (λ k l. ap (λ (d : ℕ). canMake (cellPixels pic d) (cellPixels pic c)) (g .same k l))
-      ∙ ap (least (λ k. canMake (cellPixels pic (getD (defCells pic c) k 0)) (cellPixels pic c))) (g .count)
+      ∙ least-same (λ k. canMake (getD pixels k []) cell) (λ k. canMake (cellPixels pic (getD (defCells pic c) k 0)) (cellPixels pic c)) n
+      (λ k l. ap₂ canMake (source-is k l) ec)
+      ∙ ap (least (λ k. canMake (cellPixels pic (getD (defCells pic c) k 0)) (cellPixels pic c))) (g .placed .count)
 
   turn-old : p .tile < n → p .turn ≡ cellTurn pic c
   unfolding cellTurn sourceOf
   turn-old l =
-      let t : tileOf pic c < length (defCells pic c) = omega (arith, l, tile-is, g .count) in
+      let t : tileOf pic c < length (defCells pic c) = omega (arith, l, tile-is, g .placed .count) in
       here .turn-is l
-      ∙ ap (λ (d : ℕ). turnFor (cellPixels pic d) (cellPixels pic c))
-      (g .same (p .tile) l ∙ ap (λ (k : ℕ). getD (defCells pic c) k 0) tile-is ∙ ap (λ (ds : List ℕ). getD ds (tileOf pic c) 0) (sym (defs-old pic c t)))
+      ∙ ap₂ turnFor
+      (source-is (p .tile) l ∙ ap₂ (λ (ds : List ℕ) (k : ℕ). cellPixels pic (getD ds k 0)) (sym (defs-old pic c t)) tile-is) ec
 
   turn-new : n ≤ p .tile → 0 ≡ cellTurn pic c
   unfolding cellTurn sourceOf turnFor Shows columnOf rowOf
   turn-new l =
-      let t : length (defCells pic c) ≤ tileOf pic c = omega (arith, l, tile-is, g .count) in
-      let e : tileOf pic c ≡ length (defCells pic c) = omega (arith, t, tile-is, g .count, here .tile-small) in
+      let t : length (defCells pic c) ≤ tileOf pic c = omega (arith, l, tile-is, g .placed .count) in
+      let e : tileOf pic c ≡ length (defCells pic c) = omega (arith, t, tile-is, g .placed .count, here .tile-small) in
       least-here (turnedInto (cellPixels pic c) (cellPixels pic c)) 8 0 (omega arith) (λ i k. absurd (not-suc-le-zero k)) (turned-of pic c c 0 (λ x y h k. refl))
       ∙ ap (λ (d : ℕ). turnFor (cellPixels pic d) (cellPixels pic c))
       (sym (ap₂ (λ (ds : List ℕ) (k : ℕ). getD ds k 0) (defs-new pic c t) e ∙ getD-append-seam (defCells pic c) c [] 0))
@@ -84,82 +87,95 @@ module _ (pic : List ℕ) (offset : ℕ) (cells marks map : List ℕ) (n c : ℕ
   entry-turn = let e : (c * 2 + 1) % 2 ≡ 1 = omega arith in let h : (c * 2 + 1) / 2 ≡ c = omega arith in rw (e, h) refl
 
   -- with an old definition
-  pub step-old : (a b : ℕ) → a ≡ p .tile → b ≡ offset * 16 + p .turn * 2 → c < 1280 → p .tile < n
-      → Progress pic offset cells marks (set (set map (c * 2) a) (c * 2 + 1) b) n (suc c)
-  step-old a b ea eb lc l =
-      let t : tileOf pic c < length (defCells pic c) = omega (arith, l, tile-is, g .count) in
+  pub step-old : (map′ : List ℕ) → map′ ≡ set (set map (c * 2) (p .tile)) (c * 2 + 1) (offset * 16 + p .turn * 2) → c < 1280 → p .tile < n
+      → Progress pic offset cells pixels flips marks slots map′ n (suc c)
+  step-old map′ em lc l =
+      let t : tileOf pic c < length (defCells pic c) = omega (arith, l, tile-is, g .placed .count) in
+      let q = g .placed in
       record {
+        placed = record {
+          cells-length = q .cells-length;
+          map-length = rw em (simp length-set (q .map-length));
+          some-left = q .some-left;
+          count = q .count ∙ ap length (sym (defs-old pic c t));
+          same = λ k h. q .same k h ∙ ap (λ (ds : List ℕ). getD ds k 0) (sym (defs-old pic c t));
+          mapped =
+              rw em
+              (entry-more (mapByte pic offset) map c (p .tile) (offset * 16 + p .turn * 2) (omega (arith, q .map-length, lc)) (q .mapped)
+              (tile-is ∙ sym entry-tile) (ap (λ (v : ℕ). offset * 16 + v * 2) (turn-old l) ∙ sym entry-turn));
+        };
         listed = g .listed;
-        map-length = simp length-set (g .map-length);
-        count = g .count ∙ ap length (sym (defs-old pic c t));
-        same = λ k h. g .same k h ∙ ap (λ (ds : List ℕ). getD ds k 0) (sym (defs-old pic c t));
-        mapped =
-            entry-more (mapByte pic offset) map c a b (omega (arith, g .map-length, lc)) (g .mapped)
-            (ea ∙ tile-is ∙ sym entry-tile) (eb ∙ ap (λ (v : ℕ). offset * 16 + v * 2) (turn-old l) ∙ sym entry-turn);
-      }
-
-  list-new : (m : ℕ) → m ≡ p .mark → c < 1280 → n < 256 → Listed pic (set cells n c) (set marks n m) (suc n)
-  list-new m em lc f =
-      let q = g .listed in
-      let at : getD (set cells n c) n 0 ≡ c = getD-set-same cells n c 0 (omega (arith, f, q .cells-length)) in
-      record {
-        cells-length = simp length-set (q .cells-length);
-        marks-length = simp length-set (q .marks-length);
-        some-left = omega (arith, f);
-        below =
-            below (λ k. getD (set cells n c) k 0 < 1280) n
-            (λ k h. rw (getD-set-other cells n k c 0 (omega (arith, h))) (q .below k h)) (rw at lc);
-        marked =
-            below (λ k. getD (set marks n m) k 0 ≡ markOf (cellPixels pic (getD (set cells n c) k 0))) n
-            (λ k h.
-            getD-set-other marks n k m 0 (omega (arith, h)) ∙ q .marked k h
-            ∙ ap (λ (d : ℕ). markOf (cellPixels pic d)) (sym (getD-set-other cells n k c 0 (omega (arith, h)))))
-            (getD-set-same marks n m 0 (omega (arith, f, q .marks-length)) ∙ em ∙ here .mark-is ∙ ap (λ (d : ℕ). markOf (cellPixels pic d)) (sym at));
+        slotted = g .slotted;
+        taken = g .taken;
       }
 
   -- with a new one
-  pub step-new : (a b m : ℕ) → m ≡ p .mark → a ≡ n → b ≡ offset * 16 → c < 1280 → n ≤ p .tile → n < 256
-      → Progress pic offset (set cells n c) (set marks n m) (set (set map (c * 2) a) (c * 2 + 1) b) (suc n) (suc c)
-  step-new a b m em ea eb lc l f =
-      let t : length (defCells pic c) ≤ tileOf pic c = omega (arith, l, tile-is, g .count) in
+  pub step-new : (pixels′ flips′ : List (List ℕ)) (marks′ slots′ map′ : List ℕ) → pixels′ ≡ set pixels n cell → Listed pixels′ flips′ marks′ (n + 1)
+      → Slotted pixels′ slots′ (n + 1) → map′ ≡ set (set map (c * 2) n) (c * 2 + 1) (offset * 16) → c < 1280 → n ≤ p .tile → n < 256
+      → Progress pic offset (set cells n c) pixels′ flips′ marks′ slots′ map′ (suc n) (suc c)
+  step-new pixels′ flips′ marks′ slots′ map′ ep listed′ slotted′ em lc l f =
+      let t : length (defCells pic c) ≤ tileOf pic c = omega (arith, l, tile-is, g .placed .count) in
       let e = defs-new pic c t in
+      let q = g .placed in
       record {
-        listed = list-new m em lc f;
-        map-length = simp length-set (g .map-length);
-        count = omega (arith, g .count, ap length e, length-append (defCells pic c) (c ∷ []));
-        same =
-            below (λ k. getD (set cells n c) k 0 ≡ getD (defCells pic (suc c)) k 0) n
-            (λ k h.
-            getD-set-other cells n k c 0 (omega (arith, h)) ∙ g .same k h
-            ∙ sym (ap (λ (ds : List ℕ). getD ds k 0) e ∙ List·getD-append (defCells pic c) (c ∷ []) 0 k (omega (arith, h, g .count))))
-            (getD-set-same cells n c 0 (omega (arith, f, g .listed .cells-length))
-            ∙ sym (ap₂ (λ (ds : List ℕ) (k : ℕ). getD ds k 0) e (g .count) ∙ getD-append-seam (defCells pic c) c [] 0));
-        mapped =
-            entry-more (mapByte pic offset) map c a b (omega (arith, g .map-length, lc)) (g .mapped)
-            (omega (arith, ea, l, here .tile-small, tile-is, entry-tile)) (omega (arith, eb, turn-new l, entry-turn));
+        placed = record {
+          cells-length = simp length-set (q .cells-length);
+          map-length = rw em (simp length-set (q .map-length));
+          some-left = omega (arith, f);
+          count = omega (arith, q .count, ap length e, length-append (defCells pic c) (c ∷ []));
+          same =
+              below (λ k. getD (set cells n c) k 0 ≡ getD (defCells pic (suc c)) k 0) n
+              (λ k h.
+              getD-set-other cells n k c 0 (omega (arith, h)) ∙ q .same k h
+              ∙ sym (ap (λ (ds : List ℕ). getD ds k 0) e ∙ List·getD-append (defCells pic c) (c ∷ []) 0 k (omega (arith, h, q .count))))
+              (getD-set-same cells n c 0 (omega (arith, f, q .cells-length))
+              ∙ sym (ap₂ (λ (ds : List ℕ) (k : ℕ). getD ds k 0) e (q .count) ∙ getD-append-seam (defCells pic c) c [] 0));
+          mapped =
+              rw em
+              (entry-more (mapByte pic offset) map c n (offset * 16) (omega (arith, q .map-length, lc)) (q .mapped)
+              (omega (arith, l, here .tile-small, tile-is, entry-tile)) (omega (arith, turn-new l, entry-turn)));
+        };
+        listed = rw (add-one n) at listed′;
+        slotted = rw (add-one n) at slotted′;
+        taken =
+            rw ep
+            (pair-more (cellPixels pic) cells pixels n c 0 cell [] (omega (arith, f, q .cells-length)) (omega (arith, f, g .listed .pixels-length)) ec
+            (g .taken));
       }
 
   -- past the number allowed
   pub step-over : n ≤ p .tile → n < length (defCells pic (suc c))
   step-over l =
-      let t : length (defCells pic c) ≤ tileOf pic c = omega (arith, l, tile-is, g .count) in
-      omega (arith, g .count, ap length (defs-new pic c t), length-append (defCells pic c) (c ∷ []))
+      let t : length (defCells pic c) ≤ tileOf pic c = omega (arith, l, tile-is, g .placed .count) in
+      omega (arith, g .placed .count, ap length (defs-new pic c t), length-append (defCells pic c) (c ∷ []))
 
 -- before the first cell
-pub start : (pic : List ℕ) (offset : ℕ) (cells marks map : List ℕ) → length cells ≡ 256 → length marks ≡ 256 → length map ≡ 2560
-    → Progress pic offset cells marks map 0 0
+pub start : (pic : List ℕ) (offset : ℕ) (cells : List ℕ) (pixels flips : List (List ℕ)) (marks slots map : List ℕ)
+    → length cells ≡ 256 → length pixels ≡ 256 → length flips ≡ 256 → length marks ≡ 256 → length slots ≡ 4096 → length map ≡ 2560
+    → Progress pic offset cells pixels flips marks slots map 0 0
 unfolding defCells
-start pic offset cells marks map a m b =
+start pic offset cells pixels flips marks slots map lc lp lf lm ls l =
     record {
-      listed = record {
-        cells-length = a;
-        marks-length = m;
+      placed = record {
+        cells-length = lc;
+        map-length = l;
         some-left = omega arith;
-        below = λ k h. absurd (not-suc-le-zero h);
-        marked = λ k h. absurd (not-suc-le-zero h);
+        count = refl;
+        same = λ k h. absurd (not-suc-le-zero h);
+        mapped = λ i h. absurd (omega (arith, h));
       };
-      map-length = b;
-      count = refl;
-      same = λ k h. absurd (not-suc-le-zero h);
-      mapped = λ i h. absurd (omega (arith, h));
+      listed = record {
+        pixels-length = lp;
+        flips-length = lf;
+        marks-length = lm;
+        some-left = omega arith;
+        flip-is = λ k h. absurd (not-suc-le-zero h);
+        mark-is = λ k h. absurd (not-suc-le-zero h);
+      };
+      slotted = record {
+        slots-length = ls;
+        used = λ k h. absurd (not-suc-le-zero h);
+        apart = λ j k g h. absurd (not-suc-le-zero h);
+      };
+      taken = λ k h. absurd (not-suc-le-zero h);
     }

@@ -1,42 +1,59 @@
 -- What the steps of a packing keep; no part of what a packing is.
 use mathlib.Core.Path.{_≡_}
-use mathlib.Core.List.{List}
-use Prim.Native.Nat.{ℕ, _*_, _≤_, _<_}
+use mathlib.Core.List.{List, []}
+use mathlib.Core.Bool.{false}
+use Prim.Native.Nat.{ℕ, _*_, _%_, _≤_, _<_}
 use lib.ListN.{length, getD}
 use Rattle.lists.specs.Search.{least}
 use Rattle.classes.specs.Picture.{cellPixels}
 use Rattle.classes.specs.Turned.{turnFor, canMake}
 use Rattle.classes.specs.Mark.{markOf}
+use Rattle.classes.specs.Rows.{flipped}
 use Rattle.packer.specs.declared.place.Place.{Place}
 use Rattle.packer.specs.Greedy.{defCells, tileCount, mapByte, packedMap, packedDefs}
 
--- the n cells listed, with their marks
-pub record Listed (pic cells marks : List ℕ) (n : ℕ) : Type 0 where
-  pub cells-length : length cells ≡ 256
+-- the n listed cells of 64 pixels, each with its flip and its mark
+pub record Listed (pixels flips : List (List ℕ)) (marks : List ℕ) (n : ℕ) : Type 0 where
+  pub pixels-length : length pixels ≡ 256
+  pub flips-length : length flips ≡ 256
   pub marks-length : length marks ≡ 256
   pub some-left : n ≤ 256
-  pub below : (k : ℕ) → k < n → getD cells k 0 < 1280
-  pub marked : (k : ℕ) → k < n → getD marks k 0 ≡ markOf (cellPixels pic (getD cells k 0))
+  pub flip-is : (k : ℕ) → k < n → getD flips k [] ≡ flipped (getD pixels k [])
+  pub mark-is : (k : ℕ) → k < n → getD marks k 0 ≡ markOf (getD pixels k [])
+
+-- the slot of a listed cell's mark is not empty; and no listed cell can be turned into a later one
+pub record Slotted (pixels : List (List ℕ)) (slots : List ℕ) (n : ℕ) : Type 0 where
+  pub slots-length : length slots ≡ 4096
+  pub used : (k : ℕ) → k < n → 0 < getD slots (markOf (getD pixels k []) % 4096) 0
+  pub apart : (j k : ℕ) → j < k → k < n → canMake (getD pixels j []) (getD pixels k []) ≡ false
 
 -- what a search among n listed cells finds for a cell of 64 pixels: its first maker and the smallest turn, or n and 0
-pub record Found (pic cells cell : List ℕ) (n : ℕ) (p : Place) : Type 0 where
-  pub tile-is : p .tile ≡ least (λ k. canMake (cellPixels pic (getD cells k 0)) cell) n
-  pub turn-is : p .tile < n → p .turn ≡ turnFor (cellPixels pic (getD cells (p .tile) 0)) cell
+pub record Found (pixels : List (List ℕ)) (cell : List ℕ) (n : ℕ) (p : Place) : Type 0 where
+  pub tile-is : p .tile ≡ least (λ k. canMake (getD pixels k []) cell) n
+  pub turn-is : p .tile < n → p .turn ≡ turnFor (getD pixels (p .tile) []) cell
   pub mark-is : p .mark ≡ markOf cell
   pub tile-small : p .tile ≤ n
   pub turn-small : p .turn < 8
 
--- the packing of the cells below c: n definitions, from the cells listed, and the map's bytes so far
-pub record Progress (pic : List ℕ) (offset : ℕ) (cells marks map : List ℕ) (n c : ℕ) : Type 0 where
-  pub listed : Listed pic cells marks n
+-- the packing of the cells below c: n definitions, from these cells, and the map's bytes so far
+pub record Placed (pic : List ℕ) (offset : ℕ) (cells map : List ℕ) (n c : ℕ) : Type 0 where
+  pub cells-length : length cells ≡ 256
   pub map-length : length map ≡ 2560
+  pub some-left : n ≤ 256
   pub count : n ≡ length (defCells pic c)
   pub same : (k : ℕ) → k < n → getD cells k 0 ≡ getD (defCells pic c) k 0
   pub mapped : (i : ℕ) → i < c * 2 → getD map i 0 ≡ mapByte pic offset i
 
--- r definitions of at most allowed, with the progress after the cells below c; or more than allowed
-pub record Stepped (pic : List ℕ) (offset allowed : ℕ) (cells marks map : List ℕ) (r c : ℕ) : Type 0 where
-  pub going : r ≤ allowed → Progress pic offset cells marks map r c
+-- the same, with those cells listed
+pub record Progress (pic : List ℕ) (offset : ℕ) (cells : List ℕ) (pixels flips : List (List ℕ)) (marks slots map : List ℕ) (n c : ℕ) : Type 0 where
+  pub placed : Placed pic offset cells map n c
+  pub listed : Listed pixels flips marks n
+  pub slotted : Slotted pixels slots n
+  pub taken : (k : ℕ) → k < n → getD pixels k [] ≡ cellPixels pic (getD cells k 0)
+
+-- r definitions of at most allowed, and then P; or more than allowed, as the cells below c need
+pub record Stepped (P : Type 0) (pic : List ℕ) (allowed r c : ℕ) : Type 0 where
+  pub going : r ≤ allowed → P
   pub over : allowed < r → allowed < length (defCells pic c)
 
 -- r definitions where they are at most allowed

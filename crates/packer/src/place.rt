@@ -1,10 +1,15 @@
-// Placing a picture's cells: each becomes an entry of the map, and some a definition.
+// Placing a picture's cells: each becomes an entry of the map, and some a definition. The cells that became definitions are
+// listed, unpacked and flipped, with their marks; a slot for each remainder of marks holds 1 + the latest of them with such a
+// mark, or 0.
 ghost use mathlib.Core.Path.{_≡_};
-ghost use Prim.Native.Nat.{ℕ, _+_, _≤_, _<_};
-ghost use lib.ListN.{length};
-ghost use Rattle.classes.specs.Picture.{cellPixels};
+ghost use mathlib.Core.List.{[]};
+ghost use Prim.Native.Nat.{_+_, _*_, _≤_, _<_};
+ghost use lib.ListN.{length, getD, set};
+ghost use Rattle.lists.specs.Search.{least};
+ghost use Rattle.classes.specs.Turned.{canMake};
 ghost use Rattle.classes.specs.Mark.{markOf};
-ghost use Rattle.packer.specs.Bounds.{Listed, Found, Progress, Stepped};
+ghost use Rattle.packer.specs.Bounds.{Listed, Slotted, Found, Placed, Progress, Stepped};
+use classes::flip;
 use classes::mark;
 use classes::turn_marked;
 use classes::unpack;
@@ -16,22 +21,20 @@ pub struct Place {
     pub mark: u32,
 }
 
-// The first of the n cells listed that can be turned into an unpacked cell, and the smallest turn that does so; or n, and 0.
+// The first of the n listed cells that can be turned into a cell, and the smallest turn that does so; or n, and 0.
 fn find_place(
-    pic: &[u8],
-    cell: &[u8],
+    cell: &[u8; 64],
     theirs: u32,
-    cells: &[usize],
+    pixels: &[[u8; 64]],
+    flips: &[[u8; 64]],
     marks: &[u32],
     n: usize,
 ) -> Place
-    requires { ⌜ (length (now pic) ≡ 40960) × (length (now cell) ≡ 64) × (theirs ≡ markOf (now cell)) × (Listed (now pic) (now cells) (now marks) n) ⌝ }
-    ensures { λ r. ⌜ Found (now (pic .entry)) (now (cells .entry)) (now (cell .entry)) n r ⌝ }
+    requires { ⌜ (theirs ≡ markOf (now cell)) × (Listed (now pixels) (now flips) (now marks) n) ⌝ }
+    ensures { λ r. ⌜ Found (now (pixels .entry)) (now (cell .entry)) n r ⌝ }
 {
     for k in 0..n {
-        let d = cells[k];
-        let ours = marks[k];
-        let turn = turn_marked(pic, d, cell, ours, theirs);
+        let turn = turn_marked(&pixels[k], &flips[k], cell, marks[k], theirs);
         if turn < 8 {
             return Place {
                 tile: k,
@@ -47,15 +50,70 @@ fn find_place(
     }
 }
 
-// The same for cell c of the picture.
-fn locate(pic: &[u8], c: usize, cells: &[usize], marks: &[u32], n: usize) -> Place
-    requires { ⌜ (length (now pic) ≡ 40960) × (c < 1280) × (Listed (now pic) (now cells) (now marks) n) ⌝ }
-    ensures { λ r. ⌜ Found (now (pic .entry)) (now (cells .entry)) (cellPixels (now (pic .entry)) c) n r ⌝ }
+// The same, by the slot of the cell's mark: an empty one means that no listed cell can be turned into it, and the listed cell
+// that it names is tried before all others.
+fn locate(
+    cell: &[u8; 64],
+    pixels: &[[u8; 64]],
+    flips: &[[u8; 64]],
+    marks: &[u32],
+    slots: &[u16],
+    n: usize,
+) -> Place
+    requires { ⌜ (Listed (now pixels) (now flips) (now marks) n) × (Slotted (now pixels) (now slots) n) ⌝ }
+    ensures { λ r. ⌜ Found (now (pixels .entry)) (now (cell .entry)) n r ⌝ }
 {
-    let mut cell = [0u8; 64];
-    unpack(pic, c, &mut cell);
-    let theirs = mark(&cell);
-    find_place(pic, &cell, theirs, cells, marks, n)
+    let theirs = mark(cell);
+    let s = slots[(theirs % 4096) as usize] as usize;
+    if s == 0 {
+        return Place {
+            tile: n,
+            turn: 0,
+            mark: theirs,
+        };
+    }
+    let named = s - 1;
+    if named < n {
+        let by = turn_marked(&pixels[named], &flips[named], cell, marks[named], theirs);
+        if by < 8 {
+            return Place {
+                tile: named,
+                turn: by,
+                mark: theirs,
+            };
+        }
+    }
+    find_place(cell, theirs, pixels, flips, marks, n)
+}
+
+// Lists a cell that none of the n listed can be turned into.
+fn list_cell(
+    cell: &[u8; 64],
+    mark: u32,
+    pixels: &mut [[u8; 64]],
+    flips: &mut [[u8; 64]],
+    marks: &mut [u32],
+    slots: &mut [u16],
+    n: usize,
+)
+    requires { ⌜ (mark ≡ markOf (now cell)) × (Listed (now pixels) (now flips) (now marks) n) × (Slotted (now pixels) (now slots) n) × (n < 256) × (n ≡ least (λ k. canMake (getD (now pixels) k []) (now cell)) n) ⌝ }
+    ensures { λ r. ⌜ (now (pixels .exit) ≡ set (now (pixels .entry)) n (now (cell .entry))) × (Listed (now (pixels .exit)) (now (flips .exit)) (now (marks .exit)) (n + 1)) × (Slotted (now (pixels .exit)) (now (slots .exit)) (n + 1)) ⌝ }
+{
+    let mut over = [0u8; 64];
+    flip(cell, &mut over);
+    pixels[n] = *cell;
+    flips[n] = over;
+    marks[n] = mark;
+    slots[(mark % 4096) as usize] = (n + 1) as u16;
+}
+
+// The entry of cell c.
+fn put_entry(map: &mut [u8], c: usize, low: usize, high: usize)
+    requires { ⌜ (length (now map) ≡ 2560) × (c < 1280) × (low < 256) × (high < 256) ⌝ }
+    ensures { λ r. ⌜ now (map .exit) ≡ set (set (now (map .entry)) (c * 2) low) (c * 2 + 1) high ⌝ }
+{
+    map[c * 2] = low as u8;
+    map[c * 2 + 1] = high as u8;
 }
 
 // Places cell c. The number of definitions then, or one more than allowed where there would be more.
@@ -64,30 +122,33 @@ fn place_cell(
     offset: usize,
     allowed: usize,
     cells: &mut [usize],
+    pixels: &mut [[u8; 64]],
+    flips: &mut [[u8; 64]],
     marks: &mut [u32],
+    slots: &mut [u16],
     map: &mut [u8],
     n: usize,
     c: usize,
 ) -> usize
-    requires { ⌜ (length (now pic) ≡ 40960) × (offset < 16) × (allowed ≤ 256) × (n ≤ allowed) × (c < 1280) × (Progress (now pic) offset (now cells) (now marks) (now map) n c) ⌝ }
-    ensures { λ r. ⌜ (r ≤ allowed + 1) × (Stepped (now (pic .entry)) offset allowed (now (cells .exit)) (now (marks .exit)) (now (map .exit)) r (c + 1)) ⌝ }
+    requires { ⌜ (length (now pic) ≡ 40960) × (offset < 16) × (allowed ≤ 256) × (n ≤ allowed) × (c < 1280) × (Progress (now pic) offset (now cells) (now pixels) (now flips) (now marks) (now slots) (now map) n c) ⌝ }
+    ensures { λ r. ⌜ (r ≤ allowed + 1) × (Stepped (Progress (now (pic .entry)) offset (now (cells .exit)) (now (pixels .exit)) (now (flips .exit)) (now (marks .exit)) (now (slots .exit)) (now (map .exit)) r (c + 1)) (now (pic .entry)) allowed r (c + 1)) ⌝ }
 {
-    let p = locate(pic, c, cells, marks, n);
+    let mut cell = [0u8; 64];
+    unpack(pic, c, &mut cell);
+    let p = locate(&cell, pixels, flips, marks, slots, n);
     let tile = p.tile;
     let turn = p.turn;
     let ours = p.mark;
     if tile < n {
-        map[c * 2] = tile as u8;
-        map[c * 2 + 1] = (offset * 16 + turn * 2) as u8;
+        put_entry(map, c, tile, offset * 16 + turn * 2);
         return n;
     }
     if allowed <= n {
         return allowed + 1;
     }
     cells[n] = c;
-    marks[n] = ours;
-    map[c * 2] = n as u8;
-    map[c * 2 + 1] = (offset * 16) as u8;
+    list_cell(&cell, ours, pixels, flips, marks, slots, n);
+    put_entry(map, c, n, offset * 16);
     n + 1
 }
 
@@ -97,15 +158,30 @@ pub fn place_cells(
     offset: usize,
     allowed: usize,
     cells: &mut [usize],
-    marks: &mut [u32],
     map: &mut [u8],
 ) -> usize
-    requires { ⌜ (length (now pic) ≡ 40960) × (offset < 16) × (allowed ≤ 256) × (length (now cells) ≡ 256) × (length (now marks) ≡ 256) × (length (now map) ≡ 2560) ⌝ }
-    ensures { λ r. ⌜ (r ≤ allowed + 1) × (Stepped (now (pic .entry)) offset allowed (now (cells .exit)) (now (marks .exit)) (now (map .exit)) r 1280) ⌝ }
+    requires { ⌜ (length (now pic) ≡ 40960) × (offset < 16) × (allowed ≤ 256) × (length (now cells) ≡ 256) × (length (now map) ≡ 2560) ⌝ }
+    ensures { λ r. ⌜ (r ≤ allowed + 1) × (Stepped (Placed (now (pic .entry)) offset (now (cells .exit)) (now (map .exit)) r 1280) (now (pic .entry)) allowed r 1280) ⌝ }
 {
+    let mut pixels = [[0u8; 64]; 256];
+    let mut flips = [[0u8; 64]; 256];
+    let mut marks = [0u32; 256];
+    let mut slots = [0u16; 4096];
     let mut n = 0;
     for c in 0..1280 {
-        n = place_cell(pic, offset, allowed, cells, marks, map, n, c);
+        n = place_cell(
+            pic,
+            offset,
+            allowed,
+            cells,
+            &mut pixels,
+            &mut flips,
+            &mut marks,
+            &mut slots,
+            map,
+            n,
+            c,
+        );
         if allowed < n {
             return n;
         }

@@ -13,9 +13,8 @@ pub fn count(pic: &[u8], allowed: usize) -> usize
     ensures { λ r. ⌜ Counted (now (pic .entry)) allowed r ⌝ }
 {
     let mut cells = [0usize; 256];
-    let mut marks = [0u32; 256];
     let mut entries = [0u8; 2560];
-    place_cells(pic, 0, allowed, &mut cells, &mut marks, &mut entries)
+    place_cells(pic, 0, allowed, &mut cells, &mut entries)
 }
 
 // The same, and the map and the definitions are written unless there are too many.
@@ -24,9 +23,8 @@ pub fn write(pic: &[u8], allowed: usize, offset: usize, map: &mut [u8], defs: &m
     ensures { λ r. ⌜ Written (now (pic .entry)) allowed offset (now (map .entry)) (now (defs .entry)) (now (map .exit)) (now (defs .exit)) r ⌝ }
 {
     let mut cells = [0usize; 256];
-    let mut marks = [0u32; 256];
     let mut entries = [0u8; 2560];
-    let n = place_cells(pic, offset, allowed, &mut cells, &mut marks, &mut entries);
+    let n = place_cells(pic, offset, allowed, &mut cells, &mut entries);
     if allowed < n {
         return n;
     }

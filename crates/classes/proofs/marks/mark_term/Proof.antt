@@ -1,4 +1,4 @@
--- `mark_term` multiplies a weight and a pixel. That each weight is small is computed once over the table.
+-- `mark_term` multiplies a weight and the square of a pixel. That each weight is small is computed once over the table.
 use Rattle.classes.specs.Mark.{weightAt, markTerm}
 use Rattle.lists.proofs.Search.{all-at}
 use Rattle.lists.proofs.Tab.{length-tab, getD-tab}
@@ -17,7 +17,7 @@ use borrow.Author.Needs.{needs}
 use Rattle.classes.proofs.marks.mark_term.Statement.{statement}
 use Rattle.classes.proofs.marks.mark_term.Tie as tie
 
-small-test : all (λ i. leb (weightAt i) 10000) 64 ≡ true
+small-test : all (λ i. leb (weightAt i) 9304) 64 ≡ true
 unfolding all weightAt
 small-test = refl
 
@@ -29,8 +29,8 @@ module _ (ws : List ℕ) (e : ws ≡ tab weightAt 64) where
   right : (i : ℕ) → i < 64 → getD ws i 0 ≡ weightAt i
   right i h = rw e (getD-tab weightAt 64 i h)
 
-  small : (i : ℕ) → i < 64 → getD ws i 0 ≤ 10000
-  small i h = rw (right i h) (leb-true _ _ (all-at (λ i. leb (weightAt i) 10000) 64 small-test i h))
+  small : (i : ℕ) → i < 64 → getD ws i 0 ≤ 9304
+  small i h = rw (right i h) (leb-true _ _ (all-at (λ i. leb (weightAt i) 9304) 64 small-test i h))
 
 mul-result : tie.Need-mul-result
 mul-result c = search needs
@@ -38,21 +38,21 @@ mul-result c = search needs
 shared-slice-read-result : tie.Need-shared-slice-read-result
 shared-slice-read-result c = let s = c .before .before .before in omega (arith, long (s .args .weights .now) (s .pre .1), s .pre .2)
 
-shared-slice-read-pixel : tie.Need-shared-slice-read-pixel
-shared-slice-read-pixel c = search needs
+shared-slice-read-square : tie.Need-shared-slice-read-square
+shared-slice-read-square c = search needs
 
-pixel-requires : tie.Need-pixel-requires
-pixel-requires c κs = search needs
+square-requires : tie.Need-square-requires
+square-requires c κs = search needs
 
 mul-result-2 : tie.Need-mul-result-2
 mul-result-2 c = let s = c .before .before .before .before .before in
-    omega (arith, mul-le-mul (small (s .args .weights .now) (s .pre .1) (s .args .i) (s .pre .2)) (c .pixel .ensures .1))
+    omega (arith, mul-le-mul (small (s .args .weights .now) (s .pre .1) (s .args .i) (s .pre .2)) (c .square .ensures .1))
 
 returns : tie.Need-returns
 unfolding markTerm
 returns c = let s = c .before .before .before .before .before in
     let w = s .args .weights .now in
-    (ap₂ (λ (x y : ℕ). x * y) (right w (s .pre .1) (s .args .i) (s .pre .2)) (c .pixel .ensures .0), mul-le-mul (small w (s .pre .1) (s .args .i) (s .pre .2)) (c .pixel .ensures .1))
+    (ap₂ (λ (x y : ℕ). x * y) (right w (s .pre .1) (s .args .i) (s .pre .2)) (c .square .ensures .0), mul-le-mul (small w (s .pre .1) (s .args .i) (s .pre .2)) (c .square .ensures .1))
 
 pub mark-term-spec : {M : Type 1} → statement M
 mark-term-spec =
@@ -60,7 +60,7 @@ mark-term-spec =
     (tie.spec
     mul-result
     shared-slice-read-result
-    shared-slice-read-pixel
-    pixel-requires
+    shared-slice-read-square
+    square-requires
     mul-result-2
     returns)

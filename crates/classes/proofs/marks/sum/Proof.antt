@@ -9,7 +9,7 @@ use Rattle.classes.proofs.marks.sum.Statement.{statement}
 use Rattle.classes.proofs.marks.sum.Tie as tie
 
 abbrev Inv-loop : tie.InvT-loop
-Inv-loop cell weights s₀ i₀ s i = (i ≤ 64) × (s ≡ total (markTerm cell) i) × (s ≤ 2550000 * i)
+Inv-loop cell weights s₀ i₀ s i = (i ≤ 64) × (s ≡ total (markTerm cell) i) × (s ≤ 2093400 * i)
 
 abbrev μ-loop : tie.MeasureT-loop
 μ-loop cell weights s₀ i₀ s i = 64 - i

@@ -11,20 +11,20 @@ use Rattle.classes.proofs.turns.turn_for.Statement.{statement}
 use Rattle.classes.proofs.turns.turn_for.Tie as tie
 
 abbrev Inv-loop : tie.InvT-loop
-Inv-loop from cell t₀ t = (t ≤ 8) × ((k : ℕ) → k < t → turnedInto «from» cell k ≡ false)
+Inv-loop from over cell t₀ t = (t ≤ 8) × ((k : ℕ) → k < t → turnedInto «from» cell k ≡ false)
 
 abbrev μ-loop : tie.MeasureT-loop
-μ-loop from cell t₀ t = 8 - t
+μ-loop from over cell t₀ t = 8 - t
 
 loop-holds : tie.Need-loop-holds Inv-loop μ-loop
 loop-holds c = (search needs, below-none _)
 
-same-requires : tie.Need-same-requires Inv-loop μ-loop
-same-requires c κs = search needs
+same-turn-requires : tie.Need-same-turn-requires Inv-loop μ-loop
+same-turn-requires c κs = search needs
 
 returns : tie.Need-returns Inv-loop μ-loop
 unfolding turnFor
-returns c = least-here _ 8 (c .before .before .before .loop .t) (omega arith) (c .before .before .before .loop .inv .1) (sym (c .before .same .ensures) ∙ c .if1 .taken)
+returns c = least-here _ 8 (c .before .before .before .loop .t) (omega arith) (c .before .before .before .loop .inv .1) (sym (c .before .same-turn .ensures) ∙ c .if1 .taken)
 
 add-t : tie.Need-add-t Inv-loop μ-loop
 add-t c = search needs
@@ -33,7 +33,7 @@ loop-less : tie.Need-loop-less Inv-loop μ-loop
 loop-less c = search needs
 
 loop-again : tie.Need-loop-again Inv-loop μ-loop
-loop-again c = (search needs, below-more _ _ (c .before .before .before .loop .inv .1) (sym (c .before .same .ensures) ∙ c .if1 .left))
+loop-again c = (search needs, below-more _ _ (c .before .before .before .loop .inv .1) (sym (c .before .same-turn .ensures) ∙ c .if1 .left))
 
 returns-2 : tie.Need-returns-2 Inv-loop μ-loop
 unfolding turnFor
@@ -46,7 +46,7 @@ turn-for-spec =
     Inv-loop
     μ-loop
     loop-holds
-    same-requires
+    same-turn-requires
     returns
     add-t
     loop-less

@@ -1,45 +1,32 @@
 -- Each way out of `place_cell` is a step of the packing.
 use Rattle.packer.proofs.Step.{step-old, step-new, step-over}
 use native.Mathlib.Numerals.{add-one}
-use lib.ListN.{length-set}
 use native.Mathlib.Omega.{arith}
-use mathlib.Core.Path.{refl}
+use mathlib.Core.Path.{_≡_, _∙_}
 use borrow.Author.Needs.{needs}
 use Rattle.packer.proofs.place.place_cell.Statement.{statement}
 use Rattle.packer.proofs.place.place_cell.Tie as tie
 
+slice-aggregate-unpack : tie.Need-slice-aggregate-unpack
+slice-aggregate-unpack c = search needs
+
+unpack-requires : tie.Need-unpack-requires
+unpack-requires c κs = search needs
+
 locate-requires : tie.Need-locate-requires
 locate-requires c κs = search needs
 
-cast-map : tie.Need-cast-map
-cast-map c = search needs
+mul-put-entry : tie.Need-mul-put-entry
+mul-put-entry c = search needs
 
-mul-map : tie.Need-mul-map
-mul-map c = search needs
+mul-put-entry-2 : tie.Need-mul-put-entry-2
+mul-put-entry-2 c = search needs
 
-slice-write-map : tie.Need-slice-write-map
-slice-write-map c = search needs
+add-put-entry : tie.Need-add-put-entry
+add-put-entry c = search needs
 
-mul-map-2 : tie.Need-mul-map-2
-mul-map-2 c = search needs
-
-mul-map-3 : tie.Need-mul-map-3
-mul-map-3 c = search needs
-
-add-map : tie.Need-add-map
-add-map c = search needs
-
-cast-map-2 : tie.Need-cast-map-2
-cast-map-2 c = search needs
-
-mul-map-4 : tie.Need-mul-map-4
-mul-map-4 c = search needs
-
-add-map-2 : tie.Need-add-map-2
-add-map-2 c = search needs
-
-slice-write-map-2 : tie.Need-slice-write-map-2
-slice-write-map-2 c = simp length-set (omega arith)
+put-entry-requires : tie.Need-put-entry-requires
+put-entry-requires c κs = search needs
 
 same-length : tie.Need-same-length
 same-length c = search needs
@@ -50,81 +37,28 @@ same-length-2 c = search needs
 same-length-3 : tie.Need-same-length-3
 same-length-3 c = search needs
 
-returns : tie.Need-returns
-returns c = let s = c .before .before .before .before .before .before .before .before in
-    let a = s .args in
-    let p = s .pre in
-    let f = c .before .locate .ensures in (
-      omega arith,
-      record {
-        going = λ h.
-            rw (add-one (a .c))
-            (step-old (a .pic .now) (a .offset) (a .cells .now) (a .marks .now) (a .map .now) (a .n) (a .c) _ (p .5) f _ _ refl refl (p .4) (c .if1 .taken));
-        over = λ h. absurd (omega (arith, h, p .3));
-      },
-    )
-
-add-result : tie.Need-add-result
-add-result c = search needs
-
 same-length-4 : tie.Need-same-length-4
 same-length-4 c = search needs
 
 same-length-5 : tie.Need-same-length-5
 same-length-5 c = search needs
 
-returns-2 : tie.Need-returns-2
-returns-2 c = let s = c .before .before .before .before .before .before .before .before .before in
+returns : tie.Need-returns
+returns c = let w = c .before .before .before .before in
+    let s = w .before .before .before .before .before .before .before .before .before .before .before .before .before .before .before in
     let a = s .args in
-    let p = s .pre in
-    let f = c .before .before .locate .ensures in (
+    let p = s .pre in (
       omega arith,
       record {
-        going = λ h. absurd (omega (arith, h));
-        over = λ h.
+        going = λ h.
             rw (add-one (a .c))
-            (omega (arith, c .if2 .taken, step-over (a .pic .now) (a .offset) (a .cells .now) (a .marks .now) (a .map .now) (a .n) (a .c) _ (p .5) f (c .before .if1 .left)));
+            (step-old (a .pic .now) (a .offset) (a .cells .now) (a .pixels .now) (a .flips .now) (a .marks .now) (a .slots .now) (a .map .now) (a .n) (a .c) _ _ (p .5) (w .before .before .before .before .before .before .before .before .unpack .ensures) (w .before .locate .ensures) _ (c .before .before .put-entry .ensures) (p .4) (w .if1 .taken));
+        over = λ h. absurd (omega (arith, h, p .3));
       },
     )
 
-mul-cells : tie.Need-mul-cells
-mul-cells c = search needs
-
-slice-write-cells : tie.Need-slice-write-cells
-slice-write-cells c = search needs
-
-mul-marks : tie.Need-mul-marks
-mul-marks c = search needs
-
-slice-write-marks : tie.Need-slice-write-marks
-slice-write-marks c = search needs
-
-cast-map-3 : tie.Need-cast-map-3
-cast-map-3 c = search needs
-
-mul-map-5 : tie.Need-mul-map-5
-mul-map-5 c = search needs
-
-slice-write-map-3 : tie.Need-slice-write-map-3
-slice-write-map-3 c = search needs
-
-mul-map-6 : tie.Need-mul-map-6
-mul-map-6 c = search needs
-
-cast-map-4 : tie.Need-cast-map-4
-cast-map-4 c = search needs
-
-mul-map-7 : tie.Need-mul-map-7
-mul-map-7 c = search needs
-
-add-map-3 : tie.Need-add-map-3
-add-map-3 c = search needs
-
-slice-write-map-4 : tie.Need-slice-write-map-4
-slice-write-map-4 c = simp length-set (omega arith)
-
-add-result-2 : tie.Need-add-result-2
-add-result-2 c = search needs
+add-result : tie.Need-add-result
+add-result c = search needs
 
 same-length-6 : tie.Need-same-length-6
 same-length-6 c = search needs
@@ -135,18 +69,75 @@ same-length-7 c = search needs
 same-length-8 : tie.Need-same-length-8
 same-length-8 c = search needs
 
-returns-3 : tie.Need-returns-3
-returns-3 c = let s = c .before .before .before .before .before .before .before .before .before in
+same-length-9 : tie.Need-same-length-9
+same-length-9 c = search needs
+
+returns-2 : tie.Need-returns-2
+returns-2 c = let s = c .before .before .before .before .before .before .before .before .before .before .before .before .before .before .before .before in
     let a = s .args in
     let p = s .pre in
-    let f = c .before .before .locate .ensures in (
-      omega (arith, c .if2 .left),
+    let o = step-over (a .pic .now) (a .offset) (a .cells .now) (a .pixels .now) (a .flips .now) (a .marks .now) (a .slots .now) (a .map .now) (a .n) (a .c) _ _ (p .5) (c .before .before .before .before .before .before .before .before .before .unpack .ensures) (c .before .before .locate .ensures) (c .before .if1 .left) in (
+      omega arith,
+      record {
+        going = λ h. absurd (omega (arith, h));
+        over = λ h. rw (add-one (a .c)) (omega (arith, c .if2 .taken, o));
+      },
+    )
+
+mul-cells : tie.Need-mul-cells
+mul-cells c = search needs
+
+slice-write-cells : tie.Need-slice-write-cells
+slice-write-cells c = search needs
+
+list-cell-requires : tie.Need-list-cell-requires
+list-cell-requires c κs = let w = c .before .before .before .before .before .before .before in
+    let p = w .before .before .before .before .before .before .before .before .before .before .before .before .before .before .pre in
+    let f = w .locate .ensures in
+    let e : w .before .before .before .before .before .before .before .before .before .before .before .before .before .before .args .n ≡ w .locate .result .tile = omega (arith, c .before .before .before .before .before .before .if1 .left, f .tile-small) in
+    (f .mark-is, p .5 .listed, p .5 .slotted, omega (arith, p .2, c .before .before .before .before .before .if2 .left), e ∙ f .tile-is)
+
+mul-put-entry-3 : tie.Need-mul-put-entry-3
+mul-put-entry-3 c = search needs
+
+put-entry-requires-2 : tie.Need-put-entry-requires-2
+put-entry-requires-2 c κs = let p = c .before .before .before .before .before .before .before .before .before .before .before .before .before .before .before .before .before .before .before .before .before .before .before .before .before .before .before .before .before .pre in
+    (p .5 .placed .map-length, p .4, omega (arith, p .2, c .before .before .before .before .before .before .before .before .before .before .before .before .before .if2 .left), omega (arith, p .1))
+
+add-result-2 : tie.Need-add-result-2
+add-result-2 c = search needs
+
+same-length-10 : tie.Need-same-length-10
+same-length-10 c = search needs
+
+same-length-11 : tie.Need-same-length-11
+same-length-11 c = search needs
+
+same-length-12 : tie.Need-same-length-12
+same-length-12 c = search needs
+
+same-length-13 : tie.Need-same-length-13
+same-length-13 c = search needs
+
+same-length-14 : tie.Need-same-length-14
+same-length-14 c = search needs
+
+same-length-15 : tie.Need-same-length-15
+same-length-15 c = search needs
+
+returns-3 : tie.Need-returns-3
+returns-3 c = let w = c .before .before .before .before .before .before .before .before .before .before .before .before .before .before .before .before .before in
+    let s = w .before .before .before .before .before .before .before .before .before .before .before .before .before .before .before in
+    let a = s .args in
+    let p = s .pre in
+    let e = c .before .before .before .before .before .before .before .before .before .before .list-cell .ensures in (
+      omega (arith, c .before .before .before .before .before .before .before .before .before .before .before .before .before .before .before .before .if2 .left),
       record {
         going = λ h.
             rw (add-one (a .c), add-one (a .n))
-            (step-new (a .pic .now) (a .offset) (a .cells .now) (a .marks .now) (a .map .now) (a .n) (a .c) _ (p .5) f _ _ _ refl refl refl (p .4)
-            (c .before .if1 .left) (omega (arith, p .2, c .if2 .left)));
-        over = λ h. absurd (omega (arith, h, c .if2 .left));
+            (step-new (a .pic .now) (a .offset) (a .cells .now) (a .pixels .now) (a .flips .now) (a .marks .now) (a .slots .now) (a .map .now) (a .n) (a .c) _ _ (p .5) (w .before .before .before .before .before .before .before .before .unpack .ensures) (w .before .locate .ensures) _ _ _ _ _ (e .0) (e .1) (e .2) (c .before .before .put-entry2 .ensures) (p .4)
+            (w .if1 .left) (omega (arith, p .2, c .before .before .before .before .before .before .before .before .before .before .before .before .before .before .before .before .if2 .left)));
+        over = λ h. absurd (omega (arith, h, c .before .before .before .before .before .before .before .before .before .before .before .before .before .before .before .before .if2 .left));
       },
     )
 
@@ -154,39 +145,35 @@ pub place-cell-spec : {M : Type 1} → statement M
 place-cell-spec =
     tie.close
     (tie.spec
+    slice-aggregate-unpack
+    unpack-requires
     locate-requires
-    cast-map
-    mul-map
-    slice-write-map
-    mul-map-2
-    mul-map-3
-    add-map
-    cast-map-2
-    mul-map-4
-    add-map-2
-    slice-write-map-2
+    mul-put-entry
+    mul-put-entry-2
+    add-put-entry
+    put-entry-requires
     same-length
     same-length-2
     same-length-3
-    returns
-    add-result
     same-length-4
     same-length-5
-    returns-2
-    mul-cells
-    slice-write-cells
-    mul-marks
-    slice-write-marks
-    cast-map-3
-    mul-map-5
-    slice-write-map-3
-    mul-map-6
-    cast-map-4
-    mul-map-7
-    add-map-3
-    slice-write-map-4
-    add-result-2
+    returns
+    add-result
     same-length-6
     same-length-7
     same-length-8
+    same-length-9
+    returns-2
+    mul-cells
+    slice-write-cells
+    list-cell-requires
+    mul-put-entry-3
+    put-entry-requires-2
+    add-result-2
+    same-length-10
+    same-length-11
+    same-length-12
+    same-length-13
+    same-length-14
+    same-length-15
     returns-3)

@@ -1,22 +1,35 @@
 -- The loop of `place_cells`: the progress of the cells placed so far.
 use Rattle.packer.proofs.Greedy.{grows}
 use Rattle.packer.proofs.Step.{start}
-use Rattle.packer.specs.Bounds.{Progress}
-use Prim.Native.Nat.{ℕ, _+_, _≤_, _-_}
+use Rattle.packer.specs.Bounds.{Placed, Progress}
+use Prim.Native.Nat.{_+_, _≤_, _-_}
 use borrow.Author.Needs.{needs}
 use native.Mathlib.Omega.{arith}
-use mathlib.Core.Path.{_≡_, subst}
+use mathlib.Core.Path.{_≡_, refl, subst}
 use Rattle.packer.proofs.place.place_cells.Statement.{statement}
 use Rattle.packer.proofs.place.place_cells.Tie as tie
 
 abbrev Inv-loop : tie.InvT-loop
-Inv-loop pic offset allowed cells₀ marks₀ map₀ n₀ c₀ cells marks map n c = (c ≤ 1280) × (n ≤ allowed) × Progress pic offset cells marks map n c
+Inv-loop pic offset allowed cells₀ map₀ pixels₀ flips₀ marks₀ slots₀ n₀ c₀ cells map pixels flips marks slots n c =
+    (c ≤ 1280) × (n ≤ allowed) × Progress pic offset cells pixels flips marks slots map n c
 
 abbrev μ-loop : tie.MeasureT-loop
-μ-loop pic offset allowed cells₀ marks₀ map₀ n₀ c₀ cells marks map n c = 1280 - c
+μ-loop pic offset allowed cells₀ map₀ pixels₀ flips₀ marks₀ slots₀ n₀ c₀ cells map pixels flips marks slots n c = 1280 - c
 
 loop-holds : tie.Need-loop-holds Inv-loop μ-loop
-loop-holds c = let p = c .before .before .before .before .pre in (omega arith, omega arith, start _ _ _ _ _ (p .3) (p .4) (p .5))
+loop-holds c = let p = c .before .before .before .pre in (omega arith, omega arith, start _ _ _ _ _ _ _ _ (p .3) refl refl refl refl (p .4))
+
+slice-aggregate-place-cell : tie.Need-slice-aggregate-place-cell Inv-loop μ-loop
+slice-aggregate-place-cell c = search needs
+
+slice-aggregate-place-cell-2 : tie.Need-slice-aggregate-place-cell-2 Inv-loop μ-loop
+slice-aggregate-place-cell-2 c = search needs
+
+slice-aggregate-place-cell-3 : tie.Need-slice-aggregate-place-cell-3 Inv-loop μ-loop
+slice-aggregate-place-cell-3 c = search needs
+
+slice-aggregate-place-cell-4 : tie.Need-slice-aggregate-place-cell-4 Inv-loop μ-loop
+slice-aggregate-place-cell-4 c = search needs
 
 place-cell-requires : tie.Need-place-cell-requires Inv-loop μ-loop
 place-cell-requires c κs = search needs
@@ -27,13 +40,10 @@ same-length c = search needs
 same-length-2 : tie.Need-same-length-2 Inv-loop μ-loop
 same-length-2 c = search needs
 
-same-length-3 : tie.Need-same-length-3 Inv-loop μ-loop
-same-length-3 c = search needs
-
 returns : tie.Need-returns Inv-loop μ-loop
-returns c = let w = c .before .before .before .before .before .before .before in
-    let l = w .before .before .before .before .before .loop in
-    let a = w .before .before .before .before .before .before .before .before .before .before .args in
+returns c = let w = c .before .before .before .before .before .before .before .before .before in
+    let l = w .before .before .before .before .before .before .before .before .loop in
+    let a = w .before .before .before .before .before .before .before .before .before .before .before .before .args in
     let e = w .place-cell .ensures in (
       e .0,
       record {
@@ -49,24 +59,21 @@ loop-less : tie.Need-loop-less Inv-loop μ-loop
 loop-less c = search needs
 
 loop-again : tie.Need-loop-again Inv-loop μ-loop
-loop-again c = (omega arith, c .if1 .left, c .before .before .before .before .before .before .before .place-cell .ensures .1 .going (c .if1 .left))
+loop-again c = (omega arith, c .if1 .left, c .before .before .before .before .before .before .before .before .before .place-cell .ensures .1 .going (c .if1 .left))
+
+same-length-3 : tie.Need-same-length-3 Inv-loop μ-loop
+same-length-3 c = search needs
 
 same-length-4 : tie.Need-same-length-4 Inv-loop μ-loop
 same-length-4 c = search needs
 
-same-length-5 : tie.Need-same-length-5 Inv-loop μ-loop
-same-length-5 c = search needs
-
-same-length-6 : tie.Need-same-length-6 Inv-loop μ-loop
-same-length-6 c = search needs
-
 returns-2 : tie.Need-returns-2 Inv-loop μ-loop
 returns-2 c = let l = c .before .loop in
-    let a = c .before .before .before .before .before .before .args in
+    let a = c .before .before .before .before .before .args in
     let e : l .c ≡ 1280 = omega arith in (
       omega arith,
       record {
-        going = λ h. subst (λ (m : ℕ). Progress (a .pic .now) (a .offset) (l .cells) (l .marks) (l .map) (l .n) m) e (l .inv .2);
+        going = λ h. subst (Placed (a .pic .now) (a .offset) (l .cells) (l .map) (l .n)) e (l .inv .2 .placed);
         over = λ h. absurd (omega (arith, h));
       },
     )
@@ -78,15 +85,17 @@ place-cells-spec =
     Inv-loop
     μ-loop
     loop-holds
+    slice-aggregate-place-cell
+    slice-aggregate-place-cell-2
+    slice-aggregate-place-cell-3
+    slice-aggregate-place-cell-4
     place-cell-requires
     same-length
     same-length-2
-    same-length-3
     returns
     add-c
     loop-less
     loop-again
+    same-length-3
     same-length-4
-    same-length-5
-    same-length-6
     returns-2)

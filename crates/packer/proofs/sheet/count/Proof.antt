@@ -9,14 +9,11 @@ slice-aggregate-place-cells c = search needs
 slice-aggregate-place-cells-2 : tie.Need-slice-aggregate-place-cells-2
 slice-aggregate-place-cells-2 c = search needs
 
-slice-aggregate-place-cells-3 : tie.Need-slice-aggregate-place-cells-3
-slice-aggregate-place-cells-3 c = search needs
-
 place-cells-requires : tie.Need-place-cells-requires
 place-cells-requires c κs = search needs
 
 returns : tie.Need-returns
-returns c = let e = c .before .before .before .place-cells .ensures .1 in record { within = λ h. e .going h .count; over = e .over }
+returns c = let e = c .before .before .place-cells .ensures .1 in record { within = λ h. e .going h .count; over = e .over }
 
 pub count-spec : {M : Type 1} → statement M
 count-spec =
@@ -24,6 +21,5 @@ count-spec =
     (tie.spec
     slice-aggregate-place-cells
     slice-aggregate-place-cells-2
-    slice-aggregate-place-cells-3
     place-cells-requires
     returns)

@@ -14,14 +14,11 @@ slice-aggregate-place-cells c = search needs
 slice-aggregate-place-cells-2 : tie.Need-slice-aggregate-place-cells-2
 slice-aggregate-place-cells-2 c = search needs
 
-slice-aggregate-place-cells-3 : tie.Need-slice-aggregate-place-cells-3
-slice-aggregate-place-cells-3 c = search needs
-
 place-cells-requires : tie.Need-place-cells-requires
 place-cells-requires c κs = search needs
 
 returns : tie.Need-returns
-returns c = let e = c .before .before .before .before .place-cells .ensures .1 in
+returns c = let e = c .before .before .before .place-cells .ensures .1 in
     record {
       counted = record { within = λ h. absurd (omega (arith, h)); over = e .over };
       map-done = λ h. absurd (omega (arith, h));
@@ -40,10 +37,10 @@ slice-aggregate-write-definitions : tie.Need-slice-aggregate-write-definitions
 slice-aggregate-write-definitions c = search needs
 
 write-definitions-requires : tie.Need-write-definitions-requires
-write-definitions-requires c κs = let s = c .before .before .before .before .before .before .before .before .before .before .before in
-    let l : s .place-cells .result ≤ s .before .before .before .before .before .before .before .args .allowed = omega arith in
+write-definitions-requires c κs = let s = c .before .before .before .before .before .before .before .before .before .before in
+    let l : s .place-cells .result ≤ s .before .before .before .before .before .before .args .allowed = omega arith in
     let g = s .place-cells .ensures .1 .going l in
-    (omega arith, g .listed .cells-length, g .listed .some-left, g .count, g .same, omega arith)
+    (omega arith, g .cells-length, g .some-left, g .count, g .same, omega arith)
 
 same-length : tie.Need-same-length
 same-length c = search needs
@@ -53,8 +50,8 @@ same-length-2 c = search needs
 
 returns-2 : tie.Need-returns-2
 unfolding packedMap
-returns-2 c = let s = c .before .before .before .before .before .before .before .before .before .before .before .before .before .before in
-    let a = s .before .before .before .before .before .before .before .args in
+returns-2 c = let s = c .before .before .before .before .before .before .before .before .before .before .before .before .before in
+    let a = s .before .before .before .before .before .before .args in
     let e = s .place-cells .ensures .1 in
     record {
       counted = record { within = λ h. e .going h .count; over = e .over };
@@ -72,7 +69,6 @@ write-spec =
     (tie.spec
     slice-aggregate-place-cells
     slice-aggregate-place-cells-2
-    slice-aggregate-place-cells-3
     place-cells-requires
     returns
     slice-aggregate-copy

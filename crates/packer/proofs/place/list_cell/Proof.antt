@@ -1,0 +1,91 @@
+-- `list_cell` stores a cell with its flip, its mark and its slot.
+use Rattle.packer.proofs.Listing.{listed-more, slotted-more}
+use Prim.Native.Nat.{ℕ, _%_}
+use mathlib.Core.Path.{refl, ap}
+use native.Mathlib.Omega.{arith}
+use borrow.Author.Needs.{needs}
+use Rattle.packer.proofs.place.list_cell.Statement.{statement}
+use Rattle.packer.proofs.place.list_cell.Tie as tie
+
+slice-aggregate-flip : tie.Need-slice-aggregate-flip
+slice-aggregate-flip c = search needs
+
+flip-requires : tie.Need-flip-requires
+flip-requires c κs = search needs
+
+mul-flips : tie.Need-mul-flips
+mul-flips c = search needs
+
+slice-set-from-flips : tie.Need-slice-set-from-flips
+slice-set-from-flips c = search needs
+
+mul-t15 : tie.Need-mul-t15
+mul-t15 c = search needs
+
+slice-set-from-flips-2 : tie.Need-slice-set-from-flips-2
+slice-set-from-flips-2 c = search needs
+
+mul-marks : tie.Need-mul-marks
+mul-marks c = search needs
+
+slice-write-marks : tie.Need-slice-write-marks
+slice-write-marks c = search needs
+
+add-slots : tie.Need-add-slots
+add-slots c = search needs
+
+cast-slots : tie.Need-cast-slots
+cast-slots c = search needs
+
+cast-slots-2 : tie.Need-cast-slots-2
+cast-slots-2 c = search needs
+
+mul-slots : tie.Need-mul-slots
+mul-slots c = search needs
+
+slice-write-slots : tie.Need-slice-write-slots
+slice-write-slots c = search needs
+
+same-length : tie.Need-same-length
+same-length c = search needs
+
+same-length-2 : tie.Need-same-length-2
+same-length-2 c = search needs
+
+same-length-3 : tie.Need-same-length-3
+same-length-3 c = search needs
+
+same-length-4 : tie.Need-same-length-4
+same-length-4 c = search needs
+
+returns : tie.Need-returns
+returns c = let s = c .before .before .before .before .before .before .before in
+    let a = s .args in
+    let p = s .pre in (
+      refl,
+      listed-more (a .pixels .now) (a .flips .now) (a .marks .now) (a .n) (a .cell .now) _ (a .mark) (p .1) (p .3) (c .before .before .flip .ensures) (p .0),
+      slotted-more (a .pixels .now) (a .slots .now) (a .n) (a .cell .now) (p .2) _ _ (p .1 .pixels-length) (p .3) (ap (λ (m : ℕ). m % 4096) (p .0)) (omega arith) (p .4),
+    )
+
+pub list-cell-spec : {M : Type 1} → statement M
+list-cell-spec =
+    tie.close
+    (tie.spec
+    slice-aggregate-flip
+    flip-requires
+    mul-flips
+    slice-set-from-flips
+    mul-t15
+    slice-set-from-flips-2
+    mul-marks
+    slice-write-marks
+    add-slots
+    cast-slots
+    cast-slots-2
+    mul-slots
+    slice-write-slots
+    same-length
+    same-length-2
+    same-length-3
+    same-length-4
+    returns)
