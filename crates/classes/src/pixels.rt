@@ -6,16 +6,8 @@ ghost use Rattle.lists.specs.Tab.{tab};
 ghost use Rattle.tilemap.specs.Index.{halfOf};
 ghost use Rattle.classes.specs.Picture.{cellByte, cellPixels};
 
-// Byte k of the 32 of a cell.
-pub fn cell_byte(pic: &[u8], c: usize, k: usize) -> u8
-    requires { ⌜ (length (now pic) ≡ 40960) × (c < 1280) × (k < 32) ⌝ }
-    ensures { λ r. ⌜ r ≡ cellByte (now (pic .entry)) c k ⌝ }
-{
-    pic[(c / 40 * 8 + k / 4) * 160 + c % 40 * 4 + k % 4]
-}
-
 // The 32 bytes of a cell, four from each of eight lines: side by side they become pixels many at a time.
-fn cell_bytes(pic: &[u8], c: usize, out: &mut [u8])
+pub fn cell_bytes(pic: &[u8], c: usize, out: &mut [u8])
     requires { ⌜ (length (now pic) ≡ 40960) × (c < 1280) × (length (now out) ≡ 32) ⌝ }
     ensures { λ r. ⌜ now (out .exit) ≡ tab (cellByte (now (pic .entry)) c) 32 ⌝ }
 {

@@ -3,6 +3,7 @@ pub mod Lower
 pub mod Greedy
 pub mod Packed
 pub mod Filled
+pub mod Defined
 pub mod Listing
 pub mod Step
 pub mod Answers

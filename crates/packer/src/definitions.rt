@@ -1,9 +1,10 @@
 // Writing the map and the definitions of an accepted packing.
 ghost use mathlib.Core.Path.{_≡_};
-ghost use Prim.Native.Nat.{ℕ, _≤_, _<_};
+ghost use Prim.Native.Nat.{ℕ, _+_, _*_, _≤_, _<_};
 ghost use lib.ListN.{length, getD};
+ghost use Rattle.lists.specs.Tab.{tab};
 ghost use Rattle.packer.specs.Greedy.{defCells, tileCount, defByte, packedDefs};
-use classes::cell_byte;
+use classes::cell_bytes;
 
 pub fn copy(source: &[u8], target: &mut [u8])
     requires { ⌜ length (now target) ≡ length (now source) ⌝ }
@@ -14,17 +15,24 @@ pub fn copy(source: &[u8], target: &mut [u8])
     }
 }
 
-// Byte i of the definitions, which were taken from the n cells listed.
-fn def_byte(pic: &[u8], cells: &[usize], n: usize, i: usize) -> u8
-    requires { ⌜ (length (now pic) ≡ 40960) × (length (now cells) ≡ 256) × (n ≤ 256) × (n ≡ tileCount (now pic)) × ((k : ℕ) → k < n → getD (now cells) k 0 ≡ getD (defCells (now pic) 1280) k 0) × (i < 8192) ⌝ }
-    ensures { λ r. ⌜ r ≡ defByte (now (pic .entry)) i ⌝ }
+fn clear(out: &mut [u8])
+    ensures { λ r. ⌜ now (out .exit) ≡ tab (λ (i : ℕ). 0) (length (now (out .entry))) ⌝ }
 {
-    let d = i / 32;
+    for i in 0..out.len() {
+        out[i] = 0;
+    }
+}
+
+// Definition d: the bytes of its cell, one of the n listed, or 0 where it is not used.
+fn write_definition(pic: &[u8], cells: &[usize], n: usize, d: usize, out: &mut [u8])
+    requires { ⌜ (length (now pic) ≡ 40960) × (length (now cells) ≡ 256) × (n ≤ 256) × (n ≡ tileCount (now pic)) × ((k : ℕ) → k < n → getD (now cells) k 0 ≡ getD (defCells (now pic) 1280) k 0) × (length (now out) ≡ 32) ⌝ }
+    ensures { λ r. ⌜ now (out .exit) ≡ tab (λ (k : ℕ). defByte (now (pic .entry)) (d * 32 + k)) 32 ⌝ }
+{
     if d < n {
         let c = cells[d];
-        cell_byte(pic, c, i % 32)
+        cell_bytes(pic, c, out);
     } else {
-        0
+        clear(out);
     }
 }
 
@@ -32,7 +40,9 @@ pub fn write_definitions(pic: &[u8], cells: &[usize], n: usize, defs: &mut [u8])
     requires { ⌜ (length (now pic) ≡ 40960) × (length (now cells) ≡ 256) × (n ≤ 256) × (n ≡ tileCount (now pic)) × ((k : ℕ) → k < n → getD (now cells) k 0 ≡ getD (defCells (now pic) 1280) k 0) × (length (now defs) ≡ 8192) ⌝ }
     ensures { λ r. ⌜ now (defs .exit) ≡ packedDefs (now (pic .entry)) ⌝ }
 {
-    for i in 0..8192 {
-        defs[i] = def_byte(pic, cells, n, i);
+    for d in 0..256 {
+        let a = d * 32;
+        let e = a + 32;
+        write_definition(pic, cells, n, d, &mut defs[a..e]);
     }
 }

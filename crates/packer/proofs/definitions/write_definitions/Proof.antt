@@ -1,9 +1,9 @@
--- The loop of `write_definitions`: the first i bytes are right.
+-- The loop of `write_definitions`: the definitions so far are right.
 use Rattle.packer.specs.Greedy.{defByte, packedDefs}
-use Rattle.lists.proofs.Tab.{tab-none, tab-step, tab-done}
+use Rattle.lists.proofs.Tab.{tab-none, tab-part, tab-done}
 use Rattle.lists.specs.Tab.{tab}
-use lib.ListN.{length, take, length-set}
-use Prim.Native.Nat.{_≤_, _-_}
+use lib.ListN.{length, take}
+use Prim.Native.Nat.{_*_, _≤_, _-_}
 use borrow.Author.Needs.{needs}
 use native.Mathlib.Omega.{arith}
 use mathlib.Core.Path.{_≡_}
@@ -11,35 +11,48 @@ use Rattle.packer.proofs.definitions.write_definitions.Statement.{state
 use Rattle.packer.proofs.definitions.write_definitions.Tie as tie
 
 abbrev Inv-loop : tie.InvT-loop
-Inv-loop pic cells n defs₀ i₀ defs i = (i ≤ 8192) × (length defs ≡ 8192) × (take i defs ≡ tab (defByte pic) i)
+Inv-loop pic cells n defs₀ d₀ defs d = (d ≤ 256) × (length defs ≡ 8192) × (take (d * 32) defs ≡ tab (defByte pic) (d * 32))
 
 abbrev μ-loop : tie.MeasureT-loop
-μ-loop pic cells n defs₀ i₀ defs i = 8192 - i
+μ-loop pic cells n defs₀ d₀ defs d = 256 - d
 
 loop-holds : tie.Need-loop-holds Inv-loop μ-loop
 loop-holds c = (search needs, search needs, tab-none _)
 
-def-byte-requires : tie.Need-def-byte-requires Inv-loop μ-loop
-def-byte-requires c κs = search needs
+mul-a : tie.Need-mul-a Inv-loop μ-loop
+mul-a c = search needs
 
-slice-write-defs : tie.Need-slice-write-defs Inv-loop μ-loop
-slice-write-defs c = search needs
+add-e : tie.Need-add-e Inv-loop μ-loop
+add-e c = search needs
 
-add-i : tie.Need-add-i Inv-loop μ-loop
-add-i c = search needs
+sub-write-definition : tie.Need-sub-write-definition Inv-loop μ-loop
+sub-write-definition c = search needs
+
+part-write-definition-start : tie.Need-part-write-definition-start Inv-loop μ-loop
+part-write-definition-start c = search needs
+
+part-write-definition-end : tie.Need-part-write-definition-end Inv-loop μ-loop
+part-write-definition-end c = search needs
+
+write-definition-requires : tie.Need-write-definition-requires Inv-loop μ-loop
+write-definition-requires c κs = search needs
+
+add-d : tie.Need-add-d Inv-loop μ-loop
+add-d c = search needs
 
 loop-less : tie.Need-loop-less Inv-loop μ-loop
 loop-less c = search needs
 
 loop-again : tie.Need-loop-again Inv-loop μ-loop
-loop-again c = let l = c .before .before .loop in (omega arith, simp length-set (l .inv .1), tab-step _ _ _ _ (omega arith) (l .inv .2) (c .def-byte .ensures))
+loop-again c = let h = c .before .before .before .before .before .loop in
+    (search needs, search needs, tab-part _ _ _ _ _ 32 _ (omega arith) (h .inv .2) (c .before .before .write-definition .ensures) (omega arith))
 
 same-length : tie.Need-same-length Inv-loop μ-loop
 same-length c = search needs
 
 returns : tie.Need-returns Inv-loop μ-loop
 unfolding packedDefs
-returns c = let l = c .before .loop in let e : l .i ≡ 8192 = omega arith in tab-done _ _ 8192 (l .inv .1) (rw e at (l .inv .2))
+returns c = let h = c .before .loop in let e : h .d * 32 ≡ 8192 = omega arith in tab-done _ _ 8192 (h .inv .1) (rw e at (h .inv .2))
 
 pub write-definitions-spec : {M : Type 1} → statement M
 write-definitions-spec =
@@ -48,9 +61,13 @@ write-definitions-spec =
     Inv-loop
     μ-loop
     loop-holds
-    def-byte-requires
-    slice-write-defs
-    add-i
+    mul-a
+    add-e
+    sub-write-definition
+    part-write-definition-start
+    part-write-definition-end
+    write-definition-requires
+    add-d
     loop-less
     loop-again
     same-length
