@@ -10,7 +10,7 @@ use Rattle.lists.proofs.Search.{least-none, some-at}
 use Rattle.tilemap.specs.Index.{columnOf, rowOf, mirrored}
 use Rattle.classes.specs.Picture.{pixelIn}
 use Rattle.classes.specs.Turned.{turnedInto, turnFor, canMake}
-use Rattle.classes.specs.Mark.{total, weight, weightAt, shareOf, markTerm, markOf}
+use Rattle.classes.specs.Mark.{total, weight, weightAt, squareOf, markTerm, markOf}
 use Rattle.classes.proofs.Cells.{made-at}
 
 -- the four pixels that mirrors make of (u, v), added
@@ -71,17 +71,17 @@ quarter-turned C D true q = omega (arith, q 0 0 (lit< tt) (lit< tt), q 0 1 (lit<
 mark-turned : (C D : ℕ → ℕ → ℕ) (t : ℕ) → ((x y : ℕ) → x < 8 → y < 8 → C x y ≡ D (columnOf t x y) (rowOf t x y)) → marked C ≡ marked D
 mark-turned C D t h = marked-quarter C ∙ quarter-turned C D (eqb (t % 2) 1) (λ u v hu hv. four-turned C D t u v hu hv h) ∙ sym (marked-quarter D)
 
-shares : List ℕ → ℕ → ℕ → ℕ
-shares cell x y = shareOf (pixelIn cell x y)
+squares : List ℕ → ℕ → ℕ → ℕ
+squares cell x y = squareOf (pixelIn cell x y)
 
-mark-cell : (cell : List ℕ) → markOf cell ≡ marked (shares cell)
-unfolding markOf marked markTerm total shares
+mark-cell : (cell : List ℕ) → markOf cell ≡ marked (squares cell)
+unfolding markOf marked markTerm total squares
 mark-cell cell = refl
 
 mark-same : (from cell : List ℕ) (t : ℕ) → turnedInto from cell t ≡ true → markOf from ≡ markOf cell
-unfolding shares
+unfolding squares
 mark-same from cell t e =
-    mark-cell from ∙ sym (mark-turned (shares cell) (shares from) t (λ x y h k. ap shareOf (made-at from cell t e x y h k))) ∙ sym (mark-cell cell)
+    mark-cell from ∙ sym (mark-turned (squares cell) (squares from) t (λ x y h k. ap squareOf (made-at from cell t e x y h k))) ∙ sym (mark-cell cell)
 
 -- a cell has the mark of those that can be turned into it
 pub mark-made : (from cell : List ℕ) → canMake from cell ≡ true → markOf from ≡ markOf cell

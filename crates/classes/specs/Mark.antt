@@ -22,13 +22,13 @@ weight u v = 1 + 37 * (u + v) + 1009 * u * v
 unfoldable pub weightAt : ℕ → ℕ
 weightAt i = weight (edge (i % 8)) (edge (i / 8))
 
--- a pixel's share: its square, since nearly equal cells often have equal sums of plain pixels
-unfoldable pub shareOf : ℕ → ℕ
-shareOf v = v % 16 * (v % 16)
+-- the square of a pixel: with plain pixels, nearly equal cells often have equal marks
+unfoldable pub squareOf : ℕ → ℕ
+squareOf v = v % 16 * (v % 16)
 
--- the mark of a cell of 64 pixels: the shares of its pixels, weighted and added
+-- the mark of a cell of 64 pixels: the squares of its pixels, weighted and added
 unfoldable pub markTerm : List ℕ → ℕ → ℕ
-markTerm cell i = weightAt i * shareOf (getD cell i 0)
+markTerm cell i = weightAt i * squareOf (getD cell i 0)
 
 unfoldable pub markOf : List ℕ → ℕ
 markOf cell = total (markTerm cell) 64

@@ -3,7 +3,7 @@ ghost use mathlib.Core.Path.{_≡_};
 ghost use Prim.Native.Nat.{_<_, _≤_};
 ghost use lib.ListN.{length};
 ghost use Rattle.lists.specs.Tab.{tab};
-ghost use Rattle.classes.specs.Mark.{weightAt, shareOf, markTerm, markOf};
+ghost use Rattle.classes.specs.Mark.{weightAt, squareOf, markTerm, markOf};
 
 // A weight for each pixel, the same for those that turns exchange.
 const WEIGHTS: [u32; 64] = [
@@ -74,7 +74,7 @@ const WEIGHTS: [u32; 64] = [
 ];
 
 fn square(b: u8) -> u32
-    ensures { λ r. ⌜ (r ≡ shareOf b) × (r ≤ 225) ⌝ }
+    ensures { λ r. ⌜ (r ≡ squareOf b) × (r ≤ 225) ⌝ }
 {
     let p = b as u32 % 16;
     p * p

@@ -105,7 +105,7 @@ fn same_turn(from: &[u8; 64], over: &[u8; 64], cell: &[u8; 64], t: usize) -> boo
 }
 
 // The smallest turn that makes one unpacked cell into another, or 8; `over` is the first cell's flip.
-pub fn turn_for(from: &[u8; 64], over: &[u8; 64], cell: &[u8; 64]) -> usize
+fn turn_for(from: &[u8; 64], over: &[u8; 64], cell: &[u8; 64]) -> usize
     requires { ⌜ now over ≡ flipped (now from) ⌝ }
     ensures { λ r. ⌜ r ≡ turnFor (now (from .entry)) (now (cell .entry)) ⌝ }
 {

@@ -1,5 +1,5 @@
 -- `square` multiplies the remainder, which is at most 15, by itself.
-use Rattle.classes.specs.Mark.{shareOf}
+use Rattle.classes.specs.Mark.{squareOf}
 use native.Mathlib.Nat.{mul-le-mul}
 use mathlib.Core.Path.{refl}
 use Prim.Native.Nat.{ℕ, _*_, _%_, _≤_}
@@ -14,7 +14,7 @@ mul-result : tie.Need-mul-result
 mul-result c = record { fits = omega (arith, small (c .args .b)) }
 
 returns : tie.Need-returns
-unfolding shareOf
+unfolding squareOf
 returns c = (refl, small (c .args .b))
 
 pub square-spec : {M : Type 1} → statement M
