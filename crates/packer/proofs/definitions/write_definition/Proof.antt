@@ -1,6 +1,7 @@
 -- `write_definition` takes the bytes of its cell where the definition is used; the cells listed are those of the packing.
 use Rattle.packer.proofs.Greedy.{cells-below}
 use Rattle.packer.proofs.Defined.{used, unused}
+use lib.ListN.{getD}
 use Prim.Native.Nat.{_≤_, _<_}
 use native.Mathlib.Omega.{arith}
 use mathlib.Core.Path.{_∙_}
@@ -18,7 +19,8 @@ cell-bytes-requires : tie.Need-cell-bytes-requires
 cell-bytes-requires c κs = let s = c .before .before .before .before .before .before in
     let d = s .args .d in
     let l : d < s .args .n = omega arith in
-    (s .pre .0, rw (s .pre .4 d l) (cells-below (s .args .pic .now) 1280 d (omega (arith, l, s .pre .3))), s .pre .5)
+    let b : getD (s .args .cells .now) d 0 < 1280 = rw (s .pre .4 d l) (cells-below (s .args .pic .now) 1280 d (omega (arith, l, s .pre .3))) in
+    (s .pre .0, omega (arith, b, l, s .pre .2), s .pre .5)
 
 clear-requires : tie.Need-clear-requires
 clear-requires c κs = search needs
