@@ -3,21 +3,22 @@
 use mathlib.Core.Path.{_≡_, refl, sym, ap, _∙_, subst}
 use mathlib.Core.List.{List, []}
 use mathlib.Core.Bool.{Bool, true, false}
-use Prim.Native.Nat.{ℕ, suc, _+_, _%_, _<_}
+use Prim.Native.Nat.{ℕ, suc, _+_, _-_, _%_, _<_}
 use native.Mathlib.Numerals.{add-one}
 use native.Mathlib.Omega.{arith}
 use lib.Dec.{eqb}
 use lib.ListN.{length, getD, set, length-set}
 use lib.Seq.{getD-set-same, getD-set-other}
-use borrow.Author.Tests.{eqb-true, eqb-false}
+use borrow.Author.Tests.{eqb-true, eqb-false, lt-ltb}
 use Rattle.lists.specs.Search.{least}
 use Rattle.lists.proofs.Search.{below, least-found, least-here, least-none, not-both}
-use Rattle.classes.specs.Turned.{canMake}
+use Rattle.classes.specs.Turned.{turnFor, canMake}
 use Rattle.classes.specs.Mark.{markOf}
 use Rattle.classes.specs.Rows.{flipped}
 use Rattle.classes.proofs.Cells.{can-both}
 use Rattle.classes.proofs.Kept.{mark-made}
-use Rattle.packer.specs.Bounds.{Listed, Slotted}
+use Rattle.packer.specs.declared.place.Place.{Place}
+use Rattle.packer.specs.Bounds.{Listed, Slotted, Named, Found}
 
 -- an element stored in each of two lists, of which the second is f of the first
 pub pair-more : {A B : Type 0} (f : A → B) (xs : List A) (ys : List B) (n : ℕ) (x d : A) (y e : B) → n < length xs → n < length ys
@@ -49,6 +50,15 @@ still-used slots s v i h l u = go (eqb i s) refl
     go : (b : Bool) → eqb i s ≡ b → 0 < getD (set slots s v) i 0
     go true e = rw (eqb-true i s e, getD-set-same slots s v 0 h) l
     go false e = rw (getD-set-other slots s i v 0 (eqb-false i s e)) u
+
+-- what a slot holds of the one before it is of no account
+pub slotted-older : (pixels : List (List ℕ)) (slots : List ℕ) (n h o : ℕ) → Slotted pixels slots n → Slotted pixels (set slots (h + 4096) o) n
+slotted-older pixels slots n h o q =
+    record {
+      slots-length = simp length-set (q .slots-length);
+      used = λ k l. rw (getD-set-other slots (h + 4096) (markOf (getD pixels k []) % 4096) o 0 (λ e. omega (arith, e))) (q .used k l);
+      apart = q .apart;
+    }
 
 module _ (pixels : List (List ℕ)) (slots : List ℕ) (n : ℕ) (cell : List ℕ) (q : Slotted pixels slots n) where
   pub slotted-more : (s v : ℕ) → length pixels ≡ 256 → n < 256 → s ≡ markOf cell % 4096 → 0 < v
@@ -87,3 +97,18 @@ module _ (pixels : List (List ℕ)) (slots : List ℕ) (n : ℕ) (cell : List �
       go : (j : ℕ) → j < k → (b : Bool) → canMake (getD pixels j []) cell ≡ b → b ≡ false
       go j h true f = absurd (not-both (can-both (getD pixels j []) (getD pixels k []) cell f e) (q .apart j k h l))
       go j h false f = refl
+
+  -- and where a slot names it, it is what is found
+  pub found-by : (slot turn : ℕ) (p : Place) → Named pixels cell n slot turn → turn < 8 → p .tile ≡ slot - 1 → p .turn ≡ turn → p .mark ≡ markOf cell
+      → Found pixels cell n p
+  unfolding canMake turnFor
+  found-by slot turn p m l et eu em =
+      let at = m .listed l in
+      let e : turnFor (getD pixels (slot - 1) []) cell < 8 = rw (m .turn-is l) at l in
+      record {
+        tile-is = et ∙ made-by (slot - 1) (omega (arith, at .0, at .1)) (lt-ltb _ 8 e);
+        turn-is = λ h. eu ∙ m .turn-is l ∙ ap (λ (k : ℕ). turnFor (getD pixels k []) cell) (sym et);
+        mark-is = em;
+        tile-small = omega (arith, et, at .1);
+        turn-small = omega (arith, eu, l);
+      }

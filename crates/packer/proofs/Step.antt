@@ -151,7 +151,7 @@ module _ (pic : List ℕ) (offset : ℕ) (cells : List ℕ) (pixels flips : List
 
 -- before the first cell
 pub start : (pic : List ℕ) (offset : ℕ) (cells : List ℕ) (pixels flips : List (List ℕ)) (marks slots map : List ℕ)
-    → length cells ≡ 256 → length pixels ≡ 256 → length flips ≡ 256 → length marks ≡ 256 → length slots ≡ 4096 → length map ≡ 2560
+    → length cells ≡ 256 → length pixels ≡ 256 → length flips ≡ 256 → length marks ≡ 256 → length slots ≡ 8192 → length map ≡ 2560
     → Progress pic offset cells pixels flips marks slots map 0 0
 unfolding defCells
 start pic offset cells pixels flips marks slots map lc lp lf lm ls l =

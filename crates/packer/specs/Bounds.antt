@@ -2,7 +2,7 @@
 use mathlib.Core.Path.{_≡_}
 use mathlib.Core.List.{List, []}
 use mathlib.Core.Bool.{false}
-use Prim.Native.Nat.{ℕ, _*_, _%_, _≤_, _<_}
+use Prim.Native.Nat.{ℕ, _-_, _*_, _%_, _≤_, _<_}
 use lib.ListN.{length, getD}
 use Rattle.lists.specs.Search.{least}
 use Rattle.classes.specs.Picture.{cellPixels}
@@ -23,9 +23,14 @@ pub record Listed (pixels flips : List (List ℕ)) (marks : List ℕ) (n : ℕ) 
 
 -- the slot of a listed cell's mark is not empty; and no listed cell can be turned into a later one
 pub record Slotted (pixels : List (List ℕ)) (slots : List ℕ) (n : ℕ) : Type 0 where
-  pub slots-length : length slots ≡ 4096
+  pub slots-length : length slots ≡ 8192
   pub used : (k : ℕ) → k < n → 0 < getD slots (markOf (getD pixels k []) % 4096) 0
   pub apart : (j k : ℕ) → j < k → k < n → canMake (getD pixels j []) (getD pixels k []) ≡ false
+
+-- a turn below 8 makes a cell of the listed cell that a slot names
+pub record Named (pixels : List (List ℕ)) (cell : List ℕ) (n slot turn : ℕ) : Type 0 where
+  pub listed : turn < 8 → (0 < slot) × (slot ≤ n)
+  pub turn-is : turn < 8 → turn ≡ turnFor (getD pixels (slot - 1) []) cell
 
 -- what a search among n listed cells finds for a cell of 64 pixels: its first maker and the smallest turn, or n and 0
 pub record Found (pixels : List (List ℕ)) (cell : List ℕ) (n : ℕ) (p : Place) : Type 0 where

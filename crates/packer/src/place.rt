@@ -1,6 +1,6 @@
 // Placing a picture's cells: each becomes an entry of the map, and some a definition. The cells that became definitions are
-// listed, unpacked and flipped, with their marks; a slot for each remainder of marks holds 1 + the latest of them with such a
-// mark, or 0.
+// listed, unpacked and flipped, with their marks. A slot for each remainder of marks by 4,096 holds 1 + the latest of them with
+// such a mark, or 0, and the slot 4,096 further on the one before it.
 ghost use mathlib.Core.Path.{_≡_};
 ghost use mathlib.Core.List.{[]};
 ghost use Prim.Native.Nat.{_+_, _*_, _≤_, _<_};
@@ -8,7 +8,7 @@ ghost use lib.ListN.{length, getD, set};
 ghost use Rattle.lists.specs.Search.{least};
 ghost use Rattle.classes.specs.Turned.{canMake};
 ghost use Rattle.classes.specs.Mark.{markOf};
-ghost use Rattle.packer.specs.Bounds.{Listed, Slotted, Found, Placed, Progress, Stepped};
+ghost use Rattle.packer.specs.Bounds.{Listed, Slotted, Named, Found, Placed, Progress, Stepped};
 use classes::flip;
 use classes::mark;
 use classes::turn_marked;
@@ -50,8 +50,31 @@ fn find_place(
     }
 }
 
-// The same, by the slot of the cell's mark: an empty one means that no listed cell can be turned into it, and the listed cell
-// that it names is tried before all others.
+// The smallest turn by which the listed cell that a slot names makes a cell, or 8. A slot holds 1 + a listed cell's number, or 0.
+fn slot_turn(
+    cell: &[u8; 64],
+    theirs: u32,
+    pixels: &[[u8; 64]],
+    flips: &[[u8; 64]],
+    marks: &[u32],
+    slot: usize,
+    n: usize,
+) -> usize
+    requires { ⌜ (theirs ≡ markOf (now cell)) × (Listed (now pixels) (now flips) (now marks) n) ⌝ }
+    ensures { λ r. ⌜ Named (now (pixels .entry)) (now (cell .entry)) n slot r ⌝ }
+{
+    if slot == 0 {
+        return 8;
+    }
+    if n < slot {
+        return 8;
+    }
+    let k = slot - 1;
+    turn_marked(&pixels[k], &flips[k], cell, marks[k], theirs)
+}
+
+// The same, by the slots of the cell's mark: an empty one means that no listed cell can be turned into it, and the two latest
+// with such a mark are tried before all others.
 fn locate(
     cell: &[u8; 64],
     pixels: &[[u8; 64]],
@@ -64,24 +87,31 @@ fn locate(
     ensures { λ r. ⌜ Found (now (pixels .entry)) (now (cell .entry)) n r ⌝ }
 {
     let theirs = mark(cell);
-    let s = slots[(theirs % 4096) as usize] as usize;
-    if s == 0 {
+    let h = (theirs % 4096) as usize;
+    let latest = slots[h] as usize;
+    if latest == 0 {
         return Place {
             tile: n,
             turn: 0,
             mark: theirs,
         };
     }
-    let named = s - 1;
-    if named < n {
-        let by = turn_marked(&pixels[named], &flips[named], cell, marks[named], theirs);
-        if by < 8 {
-            return Place {
-                tile: named,
-                turn: by,
-                mark: theirs,
-            };
-        }
+    let first = slot_turn(cell, theirs, pixels, flips, marks, latest, n);
+    if first < 8 {
+        return Place {
+            tile: latest - 1,
+            turn: first,
+            mark: theirs,
+        };
+    }
+    let older = slots[h + 4096] as usize;
+    let second = slot_turn(cell, theirs, pixels, flips, marks, older, n);
+    if second < 8 {
+        return Place {
+            tile: older - 1,
+            turn: second,
+            mark: theirs,
+        };
     }
     find_place(cell, theirs, pixels, flips, marks, n)
 }
@@ -104,7 +134,10 @@ fn list_cell(
     pixels[n] = *cell;
     flips[n] = over;
     marks[n] = mark;
-    slots[(mark % 4096) as usize] = (n + 1) as u16;
+    let h = (mark % 4096) as usize;
+    let older = slots[h];
+    slots[h + 4096] = older;
+    slots[h] = (n + 1) as u16;
 }
 
 // The entry of cell c.
@@ -166,7 +199,7 @@ pub fn place_cells(
     let mut pixels = [[0u8; 64]; 256];
     let mut flips = [[0u8; 64]; 256];
     let mut marks = [0u32; 256];
-    let mut slots = [0u16; 4096];
+    let mut slots = [0u16; 8192];
     let mut n = 0;
     for c in 0..1280 {
         n = place_cell(

@@ -1,8 +1,9 @@
--- `list_cell` stores a cell with its flip, its mark and its slot.
-use Rattle.packer.proofs.Listing.{listed-more, slotted-more}
-use Prim.Native.Nat.{ℕ, _%_}
-use mathlib.Core.Path.{refl, ap}
+-- `list_cell` stores a cell with its flip, its mark and its slots.
+use Rattle.packer.proofs.Listing.{listed-more, slotted-older, slotted-more}
 use native.Mathlib.Omega.{arith}
+use mathlib.Core.Path.{refl, ap}
+use Prim.Native.Nat.{ℕ, _%_}
+use lib.ListN.{length-set}
 use borrow.Author.Needs.{needs}
 use Rattle.packer.proofs.place.list_cell.Statement.{statement}
 use Rattle.packer.proofs.place.list_cell.Tie as tie
@@ -19,8 +20,8 @@ mul-flips c = search needs
 slice-set-from-flips : tie.Need-slice-set-from-flips
 slice-set-from-flips c = search needs
 
-mul-t15 : tie.Need-mul-t15
-mul-t15 c = search needs
+mul-t17 : tie.Need-mul-t17
+mul-t17 c = search needs
 
 slice-set-from-flips-2 : tie.Need-slice-set-from-flips-2
 slice-set-from-flips-2 c = search needs
@@ -31,20 +32,35 @@ mul-marks c = search needs
 slice-write-marks : tie.Need-slice-write-marks
 slice-write-marks c = search needs
 
+cast-h : tie.Need-cast-h
+cast-h c = search needs
+
+mul-older : tie.Need-mul-older
+mul-older c = search needs
+
+slice-read-older : tie.Need-slice-read-older
+slice-read-older c = search needs
+
 add-slots : tie.Need-add-slots
 add-slots c = search needs
-
-cast-slots : tie.Need-cast-slots
-cast-slots c = search needs
-
-cast-slots-2 : tie.Need-cast-slots-2
-cast-slots-2 c = search needs
 
 mul-slots : tie.Need-mul-slots
 mul-slots c = search needs
 
 slice-write-slots : tie.Need-slice-write-slots
 slice-write-slots c = search needs
+
+add-slots-2 : tie.Need-add-slots-2
+add-slots-2 c = search needs
+
+cast-slots : tie.Need-cast-slots
+cast-slots c = search needs
+
+mul-slots-2 : tie.Need-mul-slots-2
+mul-slots-2 c = search needs
+
+slice-write-slots-2 : tie.Need-slice-write-slots-2
+slice-write-slots-2 c = simp length-set (omega (arith, c .before .before .before .before .before .before .before .before .pre .2 .slots-length))
 
 same-length : tie.Need-same-length
 same-length c = search needs
@@ -59,13 +75,7 @@ same-length-4 : tie.Need-same-length-4
 same-length-4 c = search needs
 
 returns : tie.Need-returns
-returns c = let s = c .before .before .before .before .before .before .before in
-    let a = s .args in
-    let p = s .pre in (
-      refl,
-      listed-more (a .pixels .now) (a .flips .now) (a .marks .now) (a .n) (a .cell .now) _ (a .mark) (p .1) (p .3) (c .before .before .flip .ensures) (p .0),
-      slotted-more (a .pixels .now) (a .slots .now) (a .n) (a .cell .now) (p .2) _ _ (p .1 .pixels-length) (p .3) (ap (λ (m : ℕ). m % 4096) (p .0)) (omega arith) (p .4),
-    )
+returns c = let s = c .before .before .before .before .before .before .before .before in let a = s .args in let p = s .pre in (refl, listed-more (a .pixels .now) (a .flips .now) (a .marks .now) (a .n) (a .cell .now) _ (a .mark) (p .1) (p .3) (c .before .before .before .flip .ensures) (p .0), slotted-more (a .pixels .now) _ (a .n) (a .cell .now) (slotted-older (a .pixels .now) (a .slots .now) (a .n) _ _ (p .2)) _ _ (p .1 .pixels-length) (p .3) (ap (λ (m : ℕ). m % 4096) (p .0)) (omega arith) (p .4))
 
 pub list-cell-spec : {M : Type 1} → statement M
 list-cell-spec =
@@ -75,15 +85,20 @@ list-cell-spec =
     flip-requires
     mul-flips
     slice-set-from-flips
-    mul-t15
+    mul-t17
     slice-set-from-flips-2
     mul-marks
     slice-write-marks
+    cast-h
+    mul-older
+    slice-read-older
     add-slots
-    cast-slots
-    cast-slots-2
     mul-slots
     slice-write-slots
+    add-slots-2
+    cast-slots
+    mul-slots-2
+    slice-write-slots-2
     same-length
     same-length-2
     same-length-3
