@@ -19,7 +19,7 @@ use Rattle.surface.specs.declared.lines.LineNumber.{LineNumber}
 use Rattle.ula.specs.Places.{ulaPalette}
 use Rattle.ula.specs.Display.{ulaDot}
 use Rattle.ula.specs.Bounds.{shownState}
-use Rattle.ula.proofs.Parts.{shown-dots}
+use Rattle.ula.proofs.Parts.{twice, shown-dots}
 use Rattle.tilemap.specs.Dots.{tileDot}
 use Rattle.tilemap.specs.Setup.{layoutOf, windowOf}
 use Rattle.layout.specs.Fields.{pair, rowAt}
@@ -47,10 +47,6 @@ pub ula-shown : (b bank : List ℕ) (line : LineNumber) (u : Ula) (p : Palette) 
 ula-shown b bank line u p ports frame clip plus pal place out eu ep eo ef ec es el ea e =
     let q : pal ≡ ulaPalette (stateIn b) = ea ∙ ula-palette-at b place (el ∙ ap (λ (x : Palette). cond (ulaSecondShown x) 614 102) ep) in
     e ∙ rw (eu, ep, eo, ef, ec, es) (ap (λ (f : ℕ → ℕ). tab f 640) (shown-dots (stateIn b) pal bank line q))
-
-twice : (pal : List ℕ) (second : Bool) → cond second pal pal ≡ pal
-twice pal true = refl
-twice pal false = refl
 
 -- the tilemap's dots over and under those of a line, from the parts that are read
 pub tiles-shown : (b bank : List ℕ) (line : LineNumber) (u : Ula) (t : Tiles) (clip pal : List ℕ) (place : ℕ) (old out : List ℕ)

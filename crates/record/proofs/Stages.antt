@@ -11,6 +11,7 @@ use Rattle.state.specs.Answer.{done}
 use Rattle.state.specs.Lawful.{lawfulUla, lawfulPalette, lawfulTiles, lawfulTurns, lawfulPorts, allColours, lawfulState}
 use Rattle.layout.specs.Layout.{layout}
 use Rattle.layout.specs.Record.{recordLength, version, counted, versioned, sound, stateIn, notRecord, readRecord}
+use Rattle.layout.proofs.Bounds.{left}
 use Rattle.layout.proofs.Claims.{counted-number, soundIsLawful}
 
 abbrev stages : List ℕ → Bool
@@ -31,12 +32,8 @@ taken b t e h = read-as b ∙ ap (λ (x : Bool). cond x (done (stateIn b)) notRe
 pub refused : (b : List ℕ) (t : Bool) → t ≡ stages b → t ≡ false → readRecord b ≡ notRecord
 refused b t e h = read-as b ∙ ap (λ (x : Bool). cond x (done (stateIn b)) notRecord) (sym e ∙ h)
 
-first-true : (x y : Bool) → (x && y) ≡ true → x ≡ true
-first-true true y h = refl
-first-true false y h = h
-
 pub long-enough : (b : List ℕ) (t : Bool) → t ≡ stages b → t ≡ true → length b ≡ recordLength
-long-enough b t e h = counted-number b (first-true (counted layout b) (versioned version b && sound layout b) (sym e ∙ h)) .1
+long-enough b t e h = counted-number b (left (counted layout b) (versioned version b && sound layout b) (sym e ∙ h)) .1
 
 grouped : (r a b c d : Bool) → (r && (a && b && c && d)) ≡ (r && a && b && c && d)
 grouped true a b c d = refl

@@ -45,7 +45,7 @@ pub same-dots : (s : State) (bank : List ℕ) (line : LineNumber)
 unfolding ulaDot ulaLine ulaPalette
 same-dots s bank line = refl
 
-twice : (pal : List ℕ) (b : Bool) → cond b pal pal ≡ pal
+pub twice : (pal : List ℕ) (b : Bool) → cond b pal pal ≡ pal
 twice pal true = refl
 twice pal false = refl
 
