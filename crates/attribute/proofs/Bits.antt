@@ -2,7 +2,7 @@
 use Prim.Native.Nat.{ℕ}
 use mathlib.Core.Path.{_≡_}
 use mathlib.Core.List.{List}
-use mathlib.Core.Bool.{Bool, true, false}
+use mathlib.Core.Bool.{true, false}
 use Rattle.surface.specs.Dots.{shown}
 use Rattle.attribute.specs.Index.{inkIndex, paperIndex, swapped, inkShown, bitIndex}
 use Rattle.attribute.specs.Colours.{colourAt, groundColour, bitColour, bitDot}

@@ -1,13 +1,12 @@
 -- Drawing by a lent record: what a record that is not refused has met, the answer of a state that is held, and the two exits of
 -- the call. `held` is the reply to the record, `early` what refuses before the state is judged, k its number.
 use Prim.Native.Nat.{ℕ}
-use mathlib.Core.Path.{_≡_, sym, ap, ap₂, _∙_}
+use mathlib.Core.Path.{_≡_, refl, sym, ap, ap₂, _∙_}
 use mathlib.Core.List.{List}
 use mathlib.Core.Bool.{true, false}
 use lib.ListN.{length}
 use borrow.Author.Tests.{eq-eqb, ne-eqb}
 use Rattle.reply.specs.declared.Reply.{Reply}
-use Rattle.reply.specs.declared.Reply.the-variants.{Done}
 use Rattle.reply.specs.Reply.{replyNumber, isDone}
 use Rattle.state.specs.declared.State.{State}
 use Rattle.state.specs.declared.Answer.{Answer}
@@ -21,7 +20,7 @@ use Rattle.layout.specs.Record.{readRecord, stateIn}
 use Rattle.layout.proofs.Claims.{long, answer, state-lawful}
 use Rattle.line.specs.Lines.{drawnLine}
 use Rattle.line.specs.Replies.{lineReply, lengthsReply, stateReply, firstOf, drawReply, drawnIf}
-use Rattle.line.proofs.Exits.{both-done, number-done, line-met, lengths-met, state-alone}
+use Rattle.line.proofs.Exits.{both-done, number-done, line-met, lengths-met, state-alone, left}
 use Rattle.capi.specs.Bounds.{Held}
 use Rattle.capi.specs.Drawn.{earlyReply, numbered, lentDrawReply, lentDrawn}
 
@@ -42,10 +41,6 @@ first-done a d t = rw t
 first-refused : (a d : Reply) → isDone a ≡ false → firstOf a d ≡ a
 unfolding firstOf
 first-refused a d t = rw t
-
-left-line : (r : Reply) (drawn out : List ℕ) → isDone r ≡ false → out ≡ drawnIf r drawn out
-unfolding drawnIf
-left-line r drawn out t = rw t
 
 module _ (n : ℕ) (ula tile dots b : List ℕ) (held : Reply) (h : held ≡ readRecord b .reply)
     (early : Reply) (e : early ≡ earlyReply (numbered n) (length ula) (length tile) (length dots) held) (k : ℕ) (ke : k ≡ replyNumber early) where
@@ -91,4 +86,4 @@ module _ (n : ℕ) (ula tile dots b : List ℕ) (held : Reply) (h : held ≡ rea
   unfolding lentDrawn
   undrawn z =
       let t = refused-reply z in
-      (ke ∙ ap replyNumber (sym t), left-line (lentDrawReply n ula tile dots b) _ dots (ne-eqb _ _ (λ q. z (ke ∙ ap replyNumber (sym t) ∙ q))))
+      (ke ∙ ap replyNumber (sym t), left (lentDrawReply n ula tile dots b) _ _ dots refl (ne-eqb _ _ (λ q. z (ke ∙ ap replyNumber (sym t) ∙ q))))

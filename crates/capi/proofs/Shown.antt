@@ -7,6 +7,7 @@ use mathlib.Core.Bool.{Bool, true, false, cond, _&&_}
 use lib.ListN.{getD}
 use Rattle.lists.specs.Tab.{tab}
 use Rattle.lists.proofs.Tab.{tab-ext, getD-tab}
+use Rattle.lists.proofs.Cond.{right-false}
 use Rattle.state.specs.Bits.{ulaOn, stencilSet, tilemapOn, ulaSecondShown, tileSecondShown}
 use Rattle.state.specs.Lawful.{allColours}
 use Rattle.state.specs.declared.State.{State}
@@ -25,6 +26,7 @@ use Rattle.tilemap.specs.Setup.{layoutOf, windowOf}
 use Rattle.layout.specs.Fields.{pair, rowAt}
 use Rattle.layout.specs.Record.{stateIn}
 use Rattle.line.specs.Compose.{tileColour, composed}
+use Rattle.line.proofs.Shaded.{shown-colours}
 use Rattle.line.specs.Lines.{stencilOn, tilePalette, tileDotOf, composedDot, composedLine}
 
 chosen : (b : List ℕ) (second : Bool) (x y : ℕ) → rowAt pair 256 b (cond second x y) ≡ cond second (rowAt pair 256 b x) (rowAt pair 256 b y)
@@ -65,13 +67,9 @@ module _ (s : State) (ula tile : List ℕ) (line : LineNumber) (old : List ℕ) 
   unfolding composedLine composedDot
   layers-on out d = d ∙ tab-ext _ _ 640 (λ k h. rw (e, getD-tab (ulaDot s ula line) 640 k h))
 
-  and-off : (a : Bool) → (a && false) ≡ false
-  and-off true = refl
-  and-off false = refl
-
   bare-dot : (k : ℕ) → tilemapOn (s .tiles) ≡ false → ulaDot s ula line k ≡ composedDot s ula tile line k
   unfolding composedDot tileDotOf tileDot windowOf composed tileColour above
-  bare-dot k o = rw (o, and-off (stencilSet (s .ula) && ulaOn (s .ula)))
+  bare-dot k o = rw (o, right-false (stencilSet (s .ula) && ulaOn (s .ula)) refl)
 
   -- without the tilemap the ULA's dots are the line
   pub layers-off : tilemapOn (s .tiles) ≡ false → old ≡ composedLine s ula tile line
@@ -83,8 +81,5 @@ pub colours-shown : (b : List ℕ) (t : Tiles) (place : ℕ) (pal : List ℕ) �
     → allColours (stateIn b .tilefirst) ≡ true → allColours (stateIn b .tilesecond) ≡ true → allColours pal ≡ true
 unfolding tilePalette
 colours-shown b t place pal et el ea f g =
-    ap allColours (ea ∙ tile-palette-at b place (el ∙ ap (λ (x : Tiles). cond (tileSecondShown x) 1638 1126) et)) ∙ either (tileSecondShown (stateIn b .tiles))
-  where
-    either : (second : Bool) → allColours (cond second (stateIn b .tilesecond) (stateIn b .tilefirst)) ≡ true
-    either true = g
-    either false = f
+    shown-colours (tileSecondShown (stateIn b .tiles)) pal (stateIn b .tilefirst) (stateIn b .tilesecond)
+    (ea ∙ tile-palette-at b place (el ∙ ap (λ (x : Tiles). cond (tileSecondShown x) 1638 1126) et)) f g

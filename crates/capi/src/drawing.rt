@@ -22,14 +22,18 @@ use surface::LineNumber;
 fn ula_place(p: Palette) -> usize
     ensures { λ r. ⌜ (r ≡ cond (ulaSecondShown p) 614 102) × (r ≤ 1638) ⌝ }
 {
-    if p.control / 2 % 2 == 1 { 614 } else { 102 }
+    if state::ula_second_shown(p) { 614 } else { 102 }
 }
 
 // Where the tilemap palette shown stands.
 fn tile_place(t: Tiles) -> usize
     ensures { λ r. ⌜ (r ≡ cond (tileSecondShown t) 1638 1126) × (r ≤ 1638) ⌝ }
 {
-    if t.control / 16 % 2 == 1 { 1638 } else { 1126 }
+    if state::tile_second_shown(t) {
+        1638
+    } else {
+        1126
+    }
 }
 
 // The ULA's dots of a line.

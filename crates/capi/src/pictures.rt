@@ -1,6 +1,5 @@
 // The calls on lines, colours and pictures.
 ghost use mathlib.Core.Path.{_≡_};
-ghost use lib.ListN.{length};
 ghost use Rattle.reply.specs.Reply.{replyNumber};
 ghost use Rattle.colour.specs.Screen.{screenAnswer};
 ghost use Rattle.capi.specs.Packed.{LentPacked};

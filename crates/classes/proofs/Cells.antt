@@ -2,10 +2,9 @@
 -- from cell to cell.
 use mathlib.Core.Path.{_≡_, refl, sym, ap₂, _∙_}
 use mathlib.Core.List.{List}
-use mathlib.Core.Bool.{Bool, true, false, cond}
+use mathlib.Core.Bool.{true}
 use Prim.Native.Nat.{ℕ, _+_, _*_, _/_, _%_, _<_}
 use native.Mathlib.Omega.{arith}
-use lib.Dec.{eqb}
 use lib.ListN.{length, getD, take, set, length-set}
 use borrow.Author.Tests.{eqb-true, eq-eqb}
 use Rattle.lists.proofs.Search.{all-at, all-of, some-of, some-at}
@@ -79,14 +78,6 @@ pixels-of pic c bs q =
     let e : i / 8 * 4 + i % 8 / 2 ≡ i / 2 = omega arith in
     let z : i % 8 % 2 ≡ i % 2 = omega arith in
     sym (rw (pixel-half pic c (i % 8) (i / 8) (omega arith), e, z, getD-tab (cellByte pic c) 32 (i / 2) b))))
-
-pub half-small : (x b : ℕ) → halfOf x b < 16
-unfolding halfOf
-half-small x b = go (eqb (x % 2) 0)
-  where
-    go : (z : Bool) → cond z (b / 16 % 16) (b % 16) < 16
-    go true = omega arith
-    go false = omega arith
 
 pub pixel-at : (pic : List ℕ) (c x y : ℕ) → x < 8 → y < 8 → pixelIn (cellPixels pic c) x y ≡ cellPixel pic c x y
 unfolding cellPixels

@@ -8,7 +8,8 @@ use native.Mathlib.Omega.{arith}
 use lib.ListN.{length, getD}
 use lib.Dec.{leb, ltb, eqb}
 use Rattle.lists.specs.Tab.{tab}
-use Rattle.lists.proofs.Search.{not-both, below}
+use Rattle.lists.proofs.Cond.{left-true, right-true}
+use Rattle.lists.proofs.Search.{below}
 use Rattle.state.specs.declared.State.{State}
 use Rattle.state.specs.Lawful.{isMask, isChoice, lawfulUla, lawfulPalette, lawfulTiles, lawfulTurns, lawfulPorts, allColours, lawfulState}
 use Rattle.layout.specs.Fields.{pair, widthOf, fieldAt}
@@ -25,17 +26,9 @@ abbrev Each : List Bool → Type 0
 Each [] = Unit
 Each (b ∷ bs) = (b ≡ true) × Each bs
 
-pub left : (a b : Bool) → (a && b) ≡ true → a ≡ true
-left true b e = refl
-left false b e = e
-
-pub right : (a b : Bool) → (a && b) ≡ true → b ≡ true
-right true b e = e
-right false b e = absurd (not-both e refl)
-
 split : (a : Bool) (bs : List Bool) → conj a bs ≡ true → (a ≡ true) × Each bs
 split a [] e = (e, tt)
-split a (b ∷ bs) e = let r = split (a && b) bs e in (left a b (r .0), (right a b (r .0), r .1))
+split a (b ∷ bs) e = let r = split (a && b) bs e in (left-true a b (r .0), (right-true a b (r .0), r .1))
 
 join : (a : Bool) (bs : List Bool) → a ≡ true → Each bs → conj a bs ≡ true
 join a [] e z = e
@@ -134,9 +127,9 @@ unfolding tab
 colours-each f zero e i l = absurd (omega (arith, l))
 colours-each f (suc n) e i l =
     let h = sym (colours-append (tab f n) (f n ∷ [])) ∙ e in
-    let a : allColours (tab f n) ≡ true = left (allColours (tab f n)) (leb (f n) 511 && true) h in
-    let r : (leb (f n) 511 && true) ≡ true = right (allColours (tab f n)) (leb (f n) 511 && true) h in
-    below (λ i. leb (f i) 511 ≡ true) n (colours-each f n a) (left (leb (f n) 511) true r) i l
+    let a : allColours (tab f n) ≡ true = left-true (allColours (tab f n)) (leb (f n) 511 && true) h in
+    let r : (leb (f n) 511 && true) ≡ true = right-true (allColours (tab f n)) (leb (f n) 511 && true) h in
+    below (λ i. leb (f i) 511 ≡ true) n (colours-each f n a) (left-true (leb (f n) 511) true r) i l
 
 colours-all : (f : ℕ → ℕ) (n : ℕ) → ((i : ℕ) → i < n → leb (f i) 511 ≡ true) → allColours (tab f n) ≡ true
 unfolding tab

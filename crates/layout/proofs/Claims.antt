@@ -8,7 +8,7 @@ use lib.ListN.{length, drop, getD}
 use lib.Dec.{leb, eqb}
 use borrow.Author.Tests.{eq-eqb, eqb-true}
 use Rattle.lists.proofs.Tab.{length-tab}
-use Rattle.lists.proofs.Cond.{if-true}
+use Rattle.lists.proofs.Cond.{if-true, left-true, right-true}
 use Rattle.reply.specs.declared.Reply.the-variants.{Done, NotRecord}
 use Rattle.state.specs.declared.State.{State}
 use Rattle.state.specs.declared.Answer.{Answer}
@@ -23,7 +23,7 @@ use Rattle.layout.specs.Claims.{WrittenReadsBack, ReadWritesBack, IsReco
 use Rattle.layout.proofs.Fields.{seam, row-length}
 use Rattle.layout.proofs.Parts.{bytes-length, bytes-back}
 use Rattle.layout.proofs.Whole.{fits, state-whole, bytes-whole}
-use Rattle.layout.proofs.Bounds.{left, right, sound-lawful}
+use Rattle.layout.proofs.Bounds.{sound-lawful}
 
 pub lengthOfRecord : LengthOfRecord
 unfolding recordOf
@@ -74,8 +74,8 @@ module _ (s : State) (z : Sized s) where
 pub counted-number : (b : List ℕ) → counted layout b ≡ true → (fieldAt pair b 0 ≡ 2148) × (length b ≡ recordLength)
 unfolding counted
 counted-number b c =
-    let n : fieldAt pair b 0 ≡ 2148 = eqb-true _ _ (right (eqb (length b) (2 + fieldAt pair b 0)) (eqb (fieldAt pair b 0) 2148) c) in
-    let l : length b ≡ 2 + fieldAt pair b 0 = eqb-true _ _ (left (eqb (length b) (2 + fieldAt pair b 0)) (eqb (fieldAt pair b 0) 2148) c) in
+    let n : fieldAt pair b 0 ≡ 2148 = eqb-true _ _ (right-true (eqb (length b) (2 + fieldAt pair b 0)) (eqb (fieldAt pair b 0) 2148) c) in
+    let l : length b ≡ 2 + fieldAt pair b 0 = eqb-true _ _ (left-true (eqb (length b) (2 + fieldAt pair b 0)) (eqb (fieldAt pair b 0) 2148) c) in
     (n, l ∙ ap (λ (k : ℕ). 2 + k) n)
 
 accepts : (b : List ℕ) → counted layout b ≡ true → versioned version b ≡ true → sound layout b ≡ true → readRecord b ≡ done (stateIn b)
@@ -133,10 +133,10 @@ module _ (b : List ℕ) (e : readRecord b .reply ≡ Done) where
   bounds = sym (sound-lawful b long) ∙ stages .2
 
   flags : (leb (getD b 31 0) 1 && leb (getD b 36 0) 1) ≡ true
-  flags = left (leb (getD b 31 0) 1 && leb (getD b 36 0) 1) (lawfulState (stateIn b)) bounds
+  flags = left-true (leb (getD b 31 0) 1 && leb (getD b 36 0) 1) (lawfulState (stateIn b)) bounds
 
   pub state-lawful : lawfulState (stateIn b) ≡ true
-  state-lawful = right (leb (getD b 31 0) 1 && leb (getD b 36 0) 1) (lawfulState (stateIn b)) bounds
+  state-lawful = right-true (leb (getD b 31 0) 1 && leb (getD b 36 0) 1) (lawfulState (stateIn b)) bounds
 
   same-bytes : Bytes b → recordOf (stateIn b) ≡ b
   unfolding recordOf
@@ -146,8 +146,8 @@ module _ (b : List ℕ) (e : readRecord b .reply ≡ Done) where
       let n = stated in
       let x0 : getD b 0 0 ≡ 8 = omega arith in
       let x1 : getD b 1 0 ≡ 100 = omega arith in
-      let held = left (leb (getD b 31 0) 1) (leb (getD b 36 0) 1) flags in
-      let plus = right (leb (getD b 31 0) 1) (leb (getD b 36 0) 1) flags in
+      let held = left-true (leb (getD b 31 0) 1) (leb (getD b 36 0) 1) flags in
+      let plus = right-true (leb (getD b 31 0) 1) (leb (getD b 36 0) 1) flags in
       let body : bytesOf layout (stateIn b) ≡ drop 3 b = bytes-whole b held plus ∙ bytes-back layout b 3 y long in
       ap (λ (l : List ℕ). 8 ∷ 100 ∷ 1 ∷ l) body ∙ front b 8 100 1 (omega (arith, long)) x0 x1 v
 

@@ -3,7 +3,7 @@
 use mathlib.Core.Path.{_≡_, refl, _∙_}
 use mathlib.Core.List.{List, [], _∷_}
 use mathlib.Core.Bool.{Bool, true, false}
-use Prim.Native.Nat.{ℕ, zero, suc, _+_}
+use Prim.Native.Nat.{ℕ, zero, suc}
 use native.Mathlib.Omega.{arith}
 use lib.ListN.{getD}
 use lib.Dec.{leb, eqb}
@@ -12,7 +12,7 @@ use Rattle.state.specs.declared.State.{State}
 use Rattle.layout.specs.Fields.{flagByte}
 use Rattle.layout.specs.Parts.{bytesOf}
 use Rattle.layout.specs.Layout.{layout, fromLayout}
-use Rattle.layout.specs.Record.{recordOf, stateIn, recordLength, following}
+use Rattle.layout.specs.Record.{recordOf, stateIn}
 use Rattle.layout.specs.Bounds.{Sized}
 use Rattle.layout.proofs.Parts.{Fits, given, again, state-back}
 
@@ -24,10 +24,6 @@ flag-forth : (x : ℕ) → leb x 1 ≡ true → flagByte (eqb x 1) ≡ x
 flag-forth zero e = refl
 flag-forth (suc zero) e = refl
 flag-forth (suc (suc x)) e = absurd (omega (arith, leb-true (suc (suc x)) 1 e))
-
--- the parts' lengths are those of the paper
-pub length-layout : recordLength ≡ 2 + following layout
-length-layout = refl
 
 pub fits : (s : State) → Sized s → Fits layout s
 fits s z = (z .ulaclip, (z .tileclip, (z .plus, (z .ulafirst, (z .ulasecond, (z .tilefirst, (z .tilesecond, tt)))))))

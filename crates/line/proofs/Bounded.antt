@@ -1,20 +1,12 @@
 -- What a lawful state is bound to, as far as drawing asks.
-use Prim.Native.Nat.{ℕ, _%_, _≤_, _<_}
-use mathlib.Core.Path.{_≡_, refl}
-use mathlib.Core.Bool.{Bool, true, false, _&&_, _||_}
-use native.Mathlib.Omega.{arith}
+use Prim.Native.Nat.{_%_, _≤_, _<_}
+use mathlib.Core.Path.{_≡_}
+use mathlib.Core.Bool.{Bool, true, _&&_, _||_}
 use lib.Dec.{leb, ltb, eqb}
 use borrow.Author.Tests.{leb-true, ltb-true}
+use Rattle.lists.proofs.Cond.{left-true, right-true}
 use Rattle.state.specs.Lawful.{isMask, isChoice, lawfulUla, lawfulPalette, lawfulTiles, lawfulTurns, lawfulPorts, allColours, lawfulState}
 use Rattle.state.specs.declared.State.{State}
-
-pub left-true : (a b : Bool) → (a && b) ≡ true → a ≡ true
-left-true true b e = refl
-left-true false b e = e
-
-pub right-true : (a b : Bool) → (a && b) ≡ true → b ≡ true
-right-true true b e = e
-right-true false b e = let z : _≡_ {A = ℕ} 0 1 = cc in absurd (omega arith)
 
 -- the five parts of a chain of five tests
 five : (a b c d e : Bool) → (a && b && c && d && e) ≡ true → (a ≡ true) × (b ≡ true) × (c ≡ true) × (d ≡ true) × (e ≡ true)

@@ -6,7 +6,7 @@ use mathlib.Core.Bool.{Bool, true, false, cond, _&&_}
 use native.Mathlib.Omega.{arith}
 use lib.Dec.{eqb}
 use borrow.Author.Tests.{eqb-true}
-use Rattle.lists.proofs.Cond.{if-true, if-false}
+use Rattle.lists.proofs.Cond.{if-true, if-false, left-true, right-true}
 use Rattle.reply.specs.Reply.{isDone, replyNumber}
 use Rattle.reply.specs.declared.Reply.{Reply}
 use Rattle.reply.specs.declared.Reply.the-variants.{Done, NoLine, BankLength, BufferLength, NotLawful, NoMode, LoresWithTiles, NextWithPlus, FarOffset, NoRegister, OutOfBounds, TooManyTiles, PackingBounds, NotRecord}
@@ -14,7 +14,6 @@ use Rattle.state.specs.Lawful.{lawfulState}
 use Rattle.state.specs.declared.State.{State}
 use Rattle.surface.specs.Lines.{isLine}
 use Rattle.surface.specs.declared.lines.LineNumber.{LineNumber}
-use Rattle.line.proofs.Bounded.{left-true, right-true}
 use Rattle.line.specs.Replies.{lineReply, lengthsReply, lawfulReply, stateReply, firstOf, firstHit, drawReply, drawnIf}
 
 -- after the last piece nothing refuses

@@ -7,6 +7,7 @@ use native.Mathlib.Omega.{arith}
 use lib.ListN.{getD}
 use lib.Dec.{eqb, leb}
 use borrow.Author.Tests.{leb-true, eqb-true, ne-eqb}
+use Rattle.lists.proofs.Cond.{left-true, right-true}
 use Rattle.lists.proofs.Tab.{getD-tab}
 use Rattle.state.specs.Lawful.{allColours}
 use Rattle.surface.specs.Dots.{inside, clipped, above}
@@ -16,7 +17,6 @@ use Rattle.tilemap.specs.Shades.{shadeFrom, shadeOf}
 use Rattle.tilemap.specs.Bounds.{Shaded}
 use Rattle.line.specs.Compose.{tileColour, stencilled, composed}
 use Rattle.line.specs.Shades.{unlessClear, shadesOf, shadeOver}
-use Rattle.line.proofs.Bounded.{left-true, right-true}
 
 -- a palette of colours has one at each index
 colour-at : (pal : List ℕ) → allColours pal ≡ true → (i : ℕ) → getD pal i 0 ≤ 511

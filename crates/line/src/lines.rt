@@ -25,7 +25,7 @@ use tilemap::Window;
 fn tile_palette<'a>(t: Tiles, first: &'a [u16; 256], second: &'a [u16; 256]) -> &'a [u16; 256]
     ensures { λ r. ⌜ now r ≡ cond (tileSecondShown t) (now (second .entry)) (now (first .entry)) ⌝ }
 {
-    if t.control / 16 % 2 == 1 {
+    if state::tile_second_shown(t) {
         second
     } else {
         first

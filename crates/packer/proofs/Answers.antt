@@ -7,8 +7,7 @@ use native.Mathlib.Omega.{arith}
 use lib.Dec.{eqb, leb}
 use lib.ListN.{length}
 use borrow.Author.Tests.{eq-eqb, ne-eqb, eqb-true, le-leb, lt-leb, leb-true, leb-false}
-use Rattle.lists.proofs.Cond.{if-true, if-false}
-use Rattle.lists.proofs.Search.{not-both}
+use Rattle.lists.proofs.Cond.{if-true, if-false, left-true, right-true}
 use Rattle.lists.proofs.Tab.{length-tab}
 use Rattle.reply.specs.declared.Reply.{Reply}
 use Rattle.reply.specs.declared.Reply.the-variants.{Done, BufferLength, TooManyTiles, PackingBounds}
@@ -23,14 +22,6 @@ use Rattle.packer.proofs.Banked.{setting}
 use Rattle.packer.proofs.Lower.{direct, lower}
 use Rattle.packer.proofs.Greedy.{counted}
 use Rattle.packer.proofs.Packed.{fewest-here, map-bytes, def-bytes}
-
-left-true : (a b : Bool) → (a && b) ≡ true → a ≡ true
-left-true true b e = refl
-left-true false b e = e
-
-right-true : (a b : Bool) → (a && b) ≡ true → b ≡ true
-right-true true b e = e
-right-true false b e = absurd (not-both e refl)
 
 -- what the early judgement lets through
 pub record Good (pic map defs allowed offset : ℕ) : Type 0 where

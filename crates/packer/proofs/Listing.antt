@@ -51,6 +51,18 @@ still-used slots s v i h l u = go (eqb i s) refl
     go true e = rw (eqb-true i s e, getD-set-same slots s v 0 h) l
     go false e = rw (getD-set-other slots s i v 0 (eqb-false i s e)) u
 
+-- no listed cell can be turned into a cell of this mark
+pub found-none : (pixels : List (List ℕ)) (cell : List ℕ) (n : ℕ) (p : Place) {m : ℕ} → (p .tile ≡ n) × (p .turn ≡ 0) × (p .mark ≡ m)
+    → n ≡ least (λ k. canMake (getD pixels k []) cell) n → m ≡ markOf cell → Found pixels cell n p
+found-none pixels cell n p e none em =
+    record {
+      tile-is = e .0 ∙ none;
+      turn-is = λ l. absurd (omega (arith, l, e .0));
+      mark-is = e .2 ∙ em;
+      tile-small = omega (arith, e .0);
+      turn-small = omega (arith, e .1);
+    }
+
 -- what a slot holds of the one before it is of no account
 pub slotted-older : (pixels : List (List ℕ)) (slots : List ℕ) (n h o : ℕ) → Slotted pixels slots n → Slotted pixels (set slots (h + 4096) o) n
 slotted-older pixels slots n h o q =

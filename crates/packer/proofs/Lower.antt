@@ -12,7 +12,8 @@ use Rattle.lists.proofs.Search.{firsts-within}
 use Rattle.tilemap.specs.Index.{turnOf, columnOf, rowOf, halfOf}
 use Rattle.classes.specs.Picture.{pixelOf, cellPixel}
 use Rattle.classes.specs.Turned.{canTurn, classes}
-use Rattle.classes.proofs.Cells.{Shows, half-small, can-share}
+use Rattle.tilemap.proofs.Within.{half-below}
+use Rattle.classes.proofs.Cells.{Shows, can-share}
 use Rattle.packer.specs.Sheet.{lowByte, highByte, named, sheetIndex, Draws}
 use Rattle.packer.proofs.Banked.{turn-small, read}
 
@@ -37,7 +38,7 @@ drawn pic offset map defs d c l x y h k =
     let ex : (c % 40 * 8 + x) % 8 ≡ x = omega arith in
     let ey : (c / 40 * 8 + y) % 8 ≡ y = omega arith in
     let e = rw (cell, ex, ey) at (d (c % 40 * 8 + x) (c / 40 * 8 + y) (omega arith) (omega arith)) in
-    omega (arith, e, half-small (c % 40 * 8 + x) (getD pic ((c / 40 * 8 + y) * 160 + (c % 40 * 8 + x) / 2) 0), half-small (columnOf (turnOf (highByte map c)) x y) (getD defs (lowByte map c * 32 + rowOf (turnOf (highByte map c)) x y * 4 + columnOf (turnOf (highByte map c)) x y / 2) 0))
+    omega (arith, e, half-below (c % 40 * 8 + x) (getD pic ((c / 40 * 8 + y) * 160 + (c % 40 * 8 + x) / 2) 0), half-below (columnOf (turnOf (highByte map c)) x y) (getD defs (lowByte map c * 32 + rowOf (turnOf (highByte map c)) x y * 4 + columnOf (turnOf (highByte map c)) x y / 2) 0))
 
 pub lower : (pic : List ℕ) (offset : ℕ) (map defs : List ℕ) → Direct pic offset map defs → classes pic ≤ named map
 unfolding classes named

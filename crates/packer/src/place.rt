@@ -21,6 +21,17 @@ pub struct Place {
     pub mark: u32,
 }
 
+// None of the n listed cells can be turned into a cell of this mark.
+fn nowhere(n: usize, mark: u32) -> Place
+    ensures { λ r. ⌜ (r .tile ≡ n) × (r .turn ≡ 0) × (r .mark ≡ mark) ⌝ }
+{
+    Place {
+        tile: n,
+        turn: 0,
+        mark,
+    }
+}
+
 // The first of the n listed cells that can be turned into a cell, and the smallest turn that does so; or n, and 0.
 fn find_place(
     cell: &[u8; 64],
@@ -43,11 +54,7 @@ fn find_place(
             };
         }
     }
-    Place {
-        tile: n,
-        turn: 0,
-        mark: theirs,
-    }
+    nowhere(n, theirs)
 }
 
 // The smallest turn by which the listed cell that a slot names makes a cell, or 8. A slot holds 1 + a listed cell's number, or 0.
@@ -73,7 +80,7 @@ fn slot_turn(
     turn_marked(&pixels[k], &flips[k], cell, marks[k], theirs)
 }
 
-// The same, by the slots of the cell's mark: an empty one means that no listed cell can be turned into it, and the two latest
+// What `find_place` finds, by the slots of the cell's mark: an empty one means that no listed cell can be turned into it, and the two latest
 // with such a mark are tried before all others.
 fn locate(
     cell: &[u8; 64],
@@ -90,11 +97,7 @@ fn locate(
     let h = (theirs % 4096) as usize;
     let latest = slots[h] as usize;
     if latest == 0 {
-        return Place {
-            tile: n,
-            turn: 0,
-            mark: theirs,
-        };
+        return nowhere(n, theirs);
     }
     let first = slot_turn(cell, theirs, pixels, flips, marks, latest, n);
     if first < 8 {

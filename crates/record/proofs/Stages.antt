@@ -5,13 +5,13 @@ use mathlib.Core.Bool.{Bool, true, false, cond, _&&_}
 use Prim.Native.Nat.{ℕ}
 use lib.Dec.{leb}
 use lib.ListN.{length, getD}
+use Rattle.lists.proofs.Cond.{left-true}
 use Rattle.state.specs.declared.State.{State}
 use Rattle.state.specs.declared.Answer.{Answer}
 use Rattle.state.specs.Answer.{done}
 use Rattle.state.specs.Lawful.{lawfulUla, lawfulPalette, lawfulTiles, lawfulTurns, lawfulPorts, allColours, lawfulState}
 use Rattle.layout.specs.Layout.{layout}
 use Rattle.layout.specs.Record.{recordLength, version, counted, versioned, sound, stateIn, notRecord, readRecord}
-use Rattle.layout.proofs.Bounds.{left}
 use Rattle.layout.proofs.Claims.{counted-number, soundIsLawful}
 
 abbrev stages : List ℕ → Bool
@@ -33,7 +33,7 @@ pub refused : (b : List ℕ) (t : Bool) → t ≡ stages b → t ≡ false → r
 refused b t e h = read-as b ∙ ap (λ (x : Bool). cond x (done (stateIn b)) notRecord) (sym e ∙ h)
 
 pub long-enough : (b : List ℕ) (t : Bool) → t ≡ stages b → t ≡ true → length b ≡ recordLength
-long-enough b t e h = counted-number b (left (counted layout b) (versioned version b && sound layout b) (sym e ∙ h)) .1
+long-enough b t e h = counted-number b (left-true (counted layout b) (versioned version b && sound layout b) (sym e ∙ h)) .1
 
 grouped : (r a b c d : Bool) → (r && (a && b && c && d)) ≡ (r && a && b && c && d)
 grouped true a b c d = refl

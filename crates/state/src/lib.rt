@@ -6,9 +6,11 @@ mod initial;
 
 pub use bits::lores_on;
 pub use bits::next_on;
+pub use bits::tile_second_shown;
 pub use bits::tilemap_on;
 pub use bits::timex_on;
 pub use bits::ula_on;
+pub use bits::ula_second_shown;
 pub use bounds::is_choice;
 pub use bounds::is_mask;
 pub use bounds::lawful;

@@ -15,7 +15,7 @@ below : (b : Bool) (x y m : ℕ) → x < m → y < m → cond b x y < m
 below true x y m h g = h
 below false x y m h g = g
 
-half-below : (x byte : ℕ) → halfOf x byte < 16
+pub half-below : (x byte : ℕ) → halfOf x byte < 16
 unfolding halfOf
 half-below x byte = below (eqb (x % 2) 0) (byte / 16 % 16) (byte % 16) 16 (omega arith) (omega arith)
 

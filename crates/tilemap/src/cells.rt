@@ -27,7 +27,8 @@ fn shade_from(shades: &[u16; 256], offset: usize, mark: u16, pixel: usize) -> u1
     shades[i] + mark
 }
 
-// The eight shades of an entry that is not rotated: row b of its definition, mirrored or not.
+// The eight shades of an entry that is not rotated: row b of its definition, mirrored or not. This loop and the next are two, and
+// not one with a choice in it, so that each reads at fixed steps.
 fn straight(
     bank: &[u8],
     at: usize,

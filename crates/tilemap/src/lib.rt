@@ -14,7 +14,6 @@ pub use rule::fetch;
 pub use rule::half;
 pub use rule::index_at;
 pub use rule::mirror;
-pub use rule::turned;
 pub use setup::Pairs;
 pub use setup::Window;
 pub use setup::layout_of;

@@ -97,7 +97,7 @@ pub fn mirror(on: bool, v: usize) -> usize
 }
 
 // The definition's pixel that (x, y) of a cell shows under a turn.
-pub fn turned(turn: usize, x: usize, y: usize) -> Spot
+fn turned(turn: usize, x: usize, y: usize) -> Spot
     requires { ⌜ (x < 8) × (y < 8) ⌝ }
     ensures { λ r. ⌜ (r .column ≡ columnOf turn x y) × (r .row ≡ rowOf turn x y) × (r .column < 8) × (r .row < 8) ⌝ }
 {

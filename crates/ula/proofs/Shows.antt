@@ -8,7 +8,7 @@ use lib.ListN.{length, getD, take}
 use borrow.Author.Tests.{le-leb, lt-leb}
 use Rattle.lists.specs.Tab.{tab}
 use Rattle.lists.proofs.Tab.{tab-ext, tab-none, tab-part, tab-done, getD-tab}
-use Rattle.lists.proofs.Cond.{if-true, if-false}
+use Rattle.lists.proofs.Cond.{if-true, if-false, right-false}
 use Rattle.surface.specs.Dots.{clipped}
 use Rattle.address.specs.Modes.{isLores, isWide}
 use Rattle.attribute.specs.declared.schemes.Colours.{Colours}
@@ -54,11 +54,7 @@ module _ (u : UlaLine) (pal plus bank : List ℕ) where
 
   in-border : (k : ℕ) → u .on ≡ true → inDots k ≡ false → u .border ≡ lineDot u pal plus bank k
   unfolding lineDot
-  in-border k o t = sym (if-true _ _ _ o ∙ if-false _ _ _ (and-off (u .display) t))
-    where
-      and-off : (a : Bool) {b : Bool} → b ≡ false → (a && b) ≡ false
-      and-off true e = e
-      and-off false e = refl
+  in-border k o t = sym (if-true _ _ _ o ∙ if-false _ _ _ (right-false (u .display) t))
 
   in-display : (k : ℕ) → k < 512 → u .on ≡ true → u .display ≡ true → displayDot (u .place) (u .colours) pal plus bank k ≡ lineDot u pal plus bank (64 + k)
   unfolding lineDot

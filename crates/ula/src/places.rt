@@ -41,7 +41,7 @@ pub struct UlaLine {
 pub fn ula_palette<'a>(p: Palette, first: &'a [u16; 256], second: &'a [u16; 256]) -> &'a [u16; 256]
     ensures { λ r. ⌜ now r ≡ cond (ulaSecondShown p) (now (second .entry)) (now (first .entry)) ⌝ }
 {
-    if p.control / 2 % 2 == 1 {
+    if state::ula_second_shown(p) {
         second
     } else {
         first

@@ -8,7 +8,7 @@ ghost use Rattle.surface.specs.Dots.{clipped};
 ghost use Rattle.state.specs.Lawful.{isMask};
 ghost use Rattle.surface.specs.Lines.{isLine};
 ghost use Rattle.attribute.specs.Bounds.{Solid};
-ghost use Rattle.ula.specs.Display.{pixelDot, wideDot, loresDot, modeDot, displayDot, lineDot, ulaDot};
+ghost use Rattle.ula.specs.Display.{pixelDot, loresDot, modeDot, displayDot, lineDot, ulaDot};
 ghost use Rattle.ula.specs.Rows.{wideLit, loresShade};
 ghost use Rattle.ula.specs.Bounds.{Placed, Ready, shownState};
 use crate::cells::pixel_cell;

@@ -1,4 +1,5 @@
 -- The loop of `find_place`: no cell listed so far makes the cell.
+use Rattle.packer.proofs.Listing.{found-none}
 use Rattle.classes.specs.Turned.{canMake, turnFor}
 use Rattle.lists.proofs.Search.{least-here, least-none}
 use borrow.Author.Count.{below-none, below-more}
@@ -69,14 +70,11 @@ unfolding canMake turnFor
 loop-again c = let h = c .before .before .before .before .before .before .loop in
     (search needs, below-more _ _ (h .inv .1) (le-ltb _ 8 (rw (c .before .turn-marked .ensures) at (c .if1 .left))))
 
+nowhere-requires : tie.Need-nowhere-requires Inv-loop μ-loop
+nowhere-requires c κs = search needs
+
 returns-2 : tie.Need-returns-2 Inv-loop μ-loop
-returns-2 c = record {
-  tile-is = least-none _ _ (λ k l. c .before .loop .inv .1 k (omega (arith, l)));
-  turn-is = λ l. absurd (omega (arith, l));
-  mark-is = c .before .before .before .pre .0;
-  tile-small = omega arith;
-  turn-small = omega arith;
-}
+returns-2 c = found-none _ _ _ _ (c .nowhere .ensures) (least-none _ _ (λ k l. c .before .before .loop .inv .1 k (omega (arith, l)))) (c .before .before .before .before .pre .0)
 
 pub find-place-spec : {M : Type 1} → statement M
 find-place-spec =
@@ -96,4 +94,5 @@ find-place-spec =
     add-k
     loop-less
     loop-again
+    nowhere-requires
     returns-2)

@@ -1,6 +1,6 @@
 -- An empty slot: no listed cell makes the cell. A listed cell that a slot names is the only one, where it makes the cell. Else
 -- `find_place` answers.
-use Rattle.packer.proofs.Listing.{made-by-none, found-by}
+use Rattle.packer.proofs.Listing.{found-none, made-by-none, found-by}
 use native.Mathlib.Omega.{arith}
 use mathlib.Core.Path.{refl}
 use Prim.Native.Nat.{_+_, _%_}
@@ -23,8 +23,14 @@ shared-slice-read-latest c = search needs
 cast-latest : tie.Need-cast-latest
 cast-latest c = let m = c .before .mark .result in record { fits = omega (arith, c .shared-slice-known3 .given (m % 4096)) }
 
+nowhere-requires : tie.Need-nowhere-requires
+nowhere-requires c κs = search needs
+
 returns : tie.Need-returns
-returns c = let s = c .before .before .before .before .before .before in let a = s .args in record { tile-is = made-by-none (a .pixels .now) (a .slots .now) (a .n) (a .cell .now) (s .pre .1) _ (c .before .before .mark .ensures) (c .if1 .taken); turn-is = λ l. absurd (omega (arith, l)); mark-is = c .before .before .mark .ensures; tile-small = omega arith; turn-small = omega arith }
+returns c = let s = c .before .before .before .before .before .before .before in
+    let a = s .args in
+    let m = c .before .before .before .mark .ensures in
+    found-none _ _ _ _ (c .nowhere .ensures) (made-by-none (a .pixels .now) (a .slots .now) (a .n) (a .cell .now) (s .pre .1) _ m (c .before .if1 .taken)) m
 
 slot-turn-requires : tie.Need-slot-turn-requires
 slot-turn-requires c κs = search needs
@@ -71,6 +77,7 @@ locate-spec =
     mul-latest
     shared-slice-read-latest
     cast-latest
+    nowhere-requires
     returns
     slot-turn-requires
     sub-t20

@@ -2,7 +2,6 @@
 use Rattle.layout.proofs.Claims.{counted-number}
 use native.Mathlib.Omega.{arith}
 use mathlib.Core.Path.{sym, _∙_}
-use lib.ListN.{length}
 use borrow.Author.Needs.{needs}
 use Rattle.record.proofs.reading.is_record.Statement.{statement}
 use Rattle.record.proofs.reading.is_record.Tie as tie
