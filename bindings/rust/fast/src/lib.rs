@@ -9,7 +9,7 @@ mod registers;
 mod state;
 
 pub use draw::draw;
-pub use pack::{fewest, pack, pack_marked, pack_plain};
+pub use pack::{fewest, pack, CHAINED, MARKED, PLAIN};
 pub use record::{read_record, write_record, RECORD_LENGTH};
 pub use registers::{write_port, write_register};
 pub use state::{lawful, State};

@@ -214,10 +214,12 @@ fn picture_cell(picture: &Picture, number: usize) -> Cell {
     })
 }
 
-/// How a cell's definition is looked for.
-const CHAINED: u8 = 0;
-const MARKED: u8 = 1;
-const PLAIN: u8 = 2;
+/// A cell's definition is looked for among those of its key.
+pub const CHAINED: u8 = 0;
+/// It is looked for among all, and those of another key are skipped.
+pub const MARKED: u8 = 1;
+/// It is looked for among all, and each is compared.
+pub const PLAIN: u8 = 2;
 
 /// The places of all cells, none where there are more than `allowed` tiles.
 fn places<const HOW: u8>(picture: &Picture, allowed: usize) -> Option<(Tiles, [Place; CELLS])> {
@@ -239,7 +241,9 @@ fn places<const HOW: u8>(picture: &Picture, allowed: usize) -> Option<(Tiles, [P
     Some((tiles, places))
 }
 
-fn pack_by<const HOW: u8>(
+/// Packs a picture, looking for definitions in one of the three ways: the
+/// reply and the count of tiles. A refusal leaves map and definitions.
+pub fn pack<const HOW: u8>(
     picture: &[u8],
     allowed: u32,
     offset: u32,
@@ -269,40 +273,6 @@ fn pack_by<const HOW: u8>(
         }
     }
     (0, tiles.count as u32)
-}
-
-/// Packs a picture, comparing a cell only with definitions of its key: the
-/// reply and the count of tiles. A refusal leaves map and definitions.
-pub fn pack(
-    picture: &[u8],
-    allowed: u32,
-    offset: u32,
-    map: &mut [u8],
-    definitions: &mut [u8],
-) -> (u8, u32) {
-    pack_by::<CHAINED>(picture, allowed, offset, map, definitions)
-}
-
-/// The same, looking at the key of each definition in turn.
-pub fn pack_marked(
-    picture: &[u8],
-    allowed: u32,
-    offset: u32,
-    map: &mut [u8],
-    definitions: &mut [u8],
-) -> (u8, u32) {
-    pack_by::<MARKED>(picture, allowed, offset, map, definitions)
-}
-
-/// The same, comparing each cell with each definition.
-pub fn pack_plain(
-    picture: &[u8],
-    allowed: u32,
-    offset: u32,
-    map: &mut [u8],
-    definitions: &mut [u8],
-) -> (u8, u32) {
-    pack_by::<PLAIN>(picture, allowed, offset, map, definitions)
 }
 
 /// The fewest tiles that draw a picture; 11 where 256 are not enough.

@@ -57,7 +57,11 @@ fn sheet(random: &mut Random, kinds: u64, colours: u64, dots: u64) -> Vec<u8> {
 fn compare(picture: &[u8], allowed: u32, offset: u32, lengths: (usize, usize)) -> (u8, u32) {
     let mut map = vec![0xAA; lengths.0];
     let mut definitions = vec![0xAA; lengths.1];
-    let ways = [fast::pack, fast::pack_marked, fast::pack_plain];
+    let ways = [
+        fast::pack::<{ fast::CHAINED }>,
+        fast::pack::<{ fast::MARKED }>,
+        fast::pack::<{ fast::PLAIN }>,
+    ];
     let before = (map.clone(), definitions.clone());
     let answer = model::pack(picture, allowed, offset, &mut map, &mut definitions);
     for way in ways {

@@ -267,19 +267,9 @@ impl Packed {
         self.count = packed.unwrap_or(0);
     }
 
-    fn marked(&mut self, picture: &[u8]) {
+    fn fast<const HOW: u8>(&mut self, picture: &[u8]) {
         let (map, definitions) = (&mut self.map, &mut self.definitions);
-        self.count = fast::pack_marked(black_box(picture), 256, 0, map, definitions).1;
-    }
-
-    fn chained(&mut self, picture: &[u8]) {
-        let (map, definitions) = (&mut self.map, &mut self.definitions);
-        self.count = fast::pack(black_box(picture), 256, 0, map, definitions).1;
-    }
-
-    fn plain(&mut self, picture: &[u8]) {
-        let (map, definitions) = (&mut self.map, &mut self.definitions);
-        self.count = fast::pack_plain(black_box(picture), 256, 0, map, definitions).1;
+        self.count = fast::pack::<HOW>(black_box(picture), 256, 0, map, definitions).1;
     }
 
     fn same(&self, other: &Packed) -> bool {
@@ -295,9 +285,9 @@ fn packing(what: &str, picture: &[u8]) -> [Row; 3] {
         1,
         &mut [
             &mut || ours.narephon(picture),
-            &mut || marked.marked(picture),
-            &mut || plain.plain(picture),
-            &mut || chained.chained(picture),
+            &mut || marked.fast::<{ fast::MARKED }>(picture),
+            &mut || plain.fast::<{ fast::PLAIN }>(picture),
+            &mut || chained.fast::<{ fast::CHAINED }>(picture),
         ],
     );
     let same = ours.same(marked) && ours.same(plain) && ours.same(chained);
