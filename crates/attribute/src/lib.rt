@@ -1,4 +1,5 @@
-// What colour an attribute gives: ink, paper and border index in plain colours, ULANext and ULAplus, flash, and the dots of them.
+// What colour an attribute gives: ink, paper and border index in plain colours, ULANext and ULAplus, flash, and the dots of them. Every call
+// here that asks for a mask or a border asks for what a lawful state has: those that draw judge it first.
 mod colours;
 mod index;
 mod schemes;

@@ -6,7 +6,7 @@ use mathlib.Core.List.{List}
 use mathlib.Core.Bool.{Bool, true, false, cond, _&&_}
 use lib.ListN.{getD}
 use Rattle.lists.specs.Tab.{tab}
-use Rattle.lists.proofs.Tab.{tab-ext, getD-tab}
+use Rattle.lists.proofs.Tab.{tab-ext}
 use Rattle.lists.proofs.Cond.{right-false}
 use Rattle.state.specs.Bits.{ulaOn, stencilSet, tilemapOn, ulaSecondShown, tileSecondShown}
 use Rattle.state.specs.Lawful.{allColours}
@@ -61,12 +61,6 @@ tiles-shown b bank line u t clip pal place old out eu et ec el ea e =
     e ∙ rw (twice pal (tileSecondShown t), eu, et, ec, q)
 
 module _ (s : State) (ula tile : List ℕ) (line : LineNumber) (old : List ℕ) (e : old ≡ tab (ulaDot s ula line) 640) where
-  -- both layers
-  pub layers-on : (out : List ℕ) → out ≡ tab (λ (k : ℕ). composed (stencilOn (s .ula) (s .tiles)) (tilePalette s) (getD old k 0) (tileDotOf s tile line k)) 640
-      → out ≡ composedLine s ula tile line
-  unfolding composedLine composedDot
-  layers-on out d = d ∙ tab-ext _ _ 640 (λ k h. rw (e, getD-tab (ulaDot s ula line) 640 k h))
-
   bare-dot : (k : ℕ) → tilemapOn (s .tiles) ≡ false → ulaDot s ula line k ≡ composedDot s ula tile line k
   unfolding composedDot tileDotOf tileDot windowOf composed tileColour above
   bare-dot k o = rw (o, right-false (stencilSet (s .ula) && ulaOn (s .ula)) refl)

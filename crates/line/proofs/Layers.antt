@@ -121,15 +121,20 @@ pub tiles-of : (u : Ula) (v : Tiles) (clip first second bank pal old out : List 
 tiles-of u v clip first second bank pal old out line t w stencil e ep et ew es =
     e ∙ tab-ext _ _ 640 (λ k h. rw (ep, et, ew, es))
 
+-- the tilemap's dots with the ULA's are the composed line
+pub layered-line : (s : State) (line : LineNumber) (ula tile u out : List ℕ) → u ≡ tab (ulaDot s ula line) 640
+    → out ≡ tab (λ (k : ℕ). composed (stencilOn (s .ula) (s .tiles)) (tilePalette s) (getD u k 0) (tileDotOf s tile line k)) 640
+    → out ≡ composedLine s ula tile line
+unfolding composedLine composedDot
+layered-line s line ula tile u out d e = e ∙ tab-ext _ _ 640 (λ k h. rw (d, getD-tab (ulaDot s ula line) 640 k h))
+
 pub whole-line : (s : State) (line : LineNumber) (ula tile u out : List ℕ)
     → out ≡ tab (λ (k : ℕ). composed (stencilOn (s .ula) (s .tiles)) (cond (tileSecondShown (s .tiles)) (s .tilesecond) (s .tilefirst)) (getD u k 0)
     (tileDot (windowOf (s .tiles) (s .tileclip) line) (layoutOf (s .tiles) (ulaOn (s .ula))) (s .tiles .transparent) tile (line .0) k)) 640
     → u ≡ tab (ulaDot (shownState (s .ula) (s .palette) (s .ports) (s .frame) (s .ulaclip) (s .plus) (s .ulafirst) (s .ulasecond)) ula line) 640
     → out ≡ composedLine s ula tile line
-unfolding composedLine composedDot tileDotOf tilePalette
-whole-line s line ula tile u out e eu =
-    let d : u ≡ tab (ulaDot s ula line) 640 = eu ∙ ap (λ (f : ℕ → ℕ). tab f 640) (same-dots s ula line) in
-    e ∙ tab-ext _ _ 640 (λ k h. rw (d, getD-tab (ulaDot s ula line) 640 k h))
+unfolding tileDotOf tilePalette
+whole-line s line ula tile u out e eu = layered-line s line ula tile u out (eu ∙ ap (λ (f : ℕ → ℕ). tab f 640) (same-dots s ula line)) e
 
 pub finished-line : (s : State) (line : LineNumber) (ula tile row out : List ℕ) (fallback : ℕ)
     → out ≡ finished fallback row → row ≡ composedLine s ula tile line → fallback ≡ widened (s .ula .fallback) → out ≡ drawnLine s ula tile line

@@ -1,4 +1,5 @@
-// The tile packer: the map and the definitions of a picture, and the fewest tiles that draw it.
+// The tile packer: the map and the definitions of a picture, and the fewest tiles that draw it. Only `pack` and `fewest` are for
+// others, and ask for nothing; the functions of the modules ask for what `judge` has shown.
 ghost use mathlib.Core.Path.{_≡_};
 ghost use Rattle.packer.specs.Answer.{judged, answered, packAnswer, Packs};
 

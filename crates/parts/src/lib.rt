@@ -1,4 +1,5 @@
-// The parts of a stored record: a state's bytes put into their places, and the state taken out of them.
+// The parts of a stored record: a state's bytes put into their places, and the state taken out of them. Every
+// call here asks for bytes that reach as far as the part does: `record` judges their number first.
 mod reading;
 mod writing;
 

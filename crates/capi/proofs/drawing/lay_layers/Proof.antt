@@ -1,5 +1,6 @@
 -- With the tilemap both layers, without it the ULA alone.
-use Rattle.capi.proofs.Shown.{layers-on, layers-off}
+use Rattle.capi.proofs.Shown.{layers-off}
+use Rattle.line.proofs.Layers.{layered-line}
 use Rattle.state.specs.Bits.{tilemapOn}
 use mathlib.Core.Path.{sym, ap, _∙_}
 use borrow.Author.Needs.{needs}
@@ -22,7 +23,7 @@ same-length : tie.Need-same-length
 same-length c = search needs
 
 returns : tie.Need-returns
-returns c = layers-on _ _ _ _ _ (c .before .before .before .before .before .before .before .before .before .lay-ula .ensures) _ (c .before .before .lay-tiles .ensures)
+returns c = layered-line _ _ _ _ _ _ (c .before .before .before .before .before .before .before .before .before .lay-ula .ensures) (c .before .before .lay-tiles .ensures)
 
 same-length-2 : tie.Need-same-length-2
 same-length-2 c = search needs
