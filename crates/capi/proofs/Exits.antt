@@ -9,9 +9,9 @@ use Rattle.reply.specs.declared.Reply.{Reply}
 use Rattle.reply.specs.Reply.{replyNumber, isDone}
 use Rattle.state.specs.declared.State.{State}
 use Rattle.state.specs.declared.Answer.{Answer}
-use Rattle.answers.specs.declared.Reading.{Reading}
-use Rattle.answers.specs.Answers.{unread}
-use Rattle.layout.specs.Record.{readRecord, writtenIn}
+use Rattle.register_answers.specs.declared.Reading.{Reading}
+use Rattle.register_answers.specs.Answers.{unread}
+use Rattle.record_layout.specs.Record.{readRecord, writtenIn}
 use Rattle.capi.specs.Lent.{lentAnswer, lentAfter, lentReading}
 
 -- an answer whose number is 0 is done; one with another number is not

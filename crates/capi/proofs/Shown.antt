@@ -15,16 +15,16 @@ use Rattle.state.specs.declared.Ula.{Ula}
 use Rattle.state.specs.declared.Tiles.{Tiles}
 use Rattle.state.specs.declared.Palette.{Palette}
 use Rattle.state.specs.declared.Ports.{Ports}
-use Rattle.surface.specs.Dots.{above}
+use Rattle.surface.specs.Dots.{topDot}
 use Rattle.surface.specs.declared.lines.LineNumber.{LineNumber}
-use Rattle.ula.specs.Places.{ulaPalette}
+use Rattle.ula.specs.Views.{ulaPalette}
 use Rattle.ula.specs.Display.{ulaDot}
 use Rattle.ula.specs.Bounds.{shownState}
 use Rattle.ula.proofs.Parts.{twice, shown-dots}
 use Rattle.tilemap.specs.Dots.{tileDot}
-use Rattle.tilemap.specs.Setup.{layoutOf, windowOf}
-use Rattle.layout.specs.Fields.{pair, rowAt}
-use Rattle.layout.specs.Record.{stateIn}
+use Rattle.tilemap.specs.Setup.{setupOf, windowOf}
+use Rattle.record_layout.specs.Fields.{pair, rowAt}
+use Rattle.record_layout.specs.Record.{stateIn}
 use Rattle.line.specs.Compose.{tileColour, composed}
 use Rattle.line.proofs.Shaded.{shown-colours}
 use Rattle.line.specs.Lines.{stencilOn, tilePalette, tileDotOf, composedDot, composedLine}
@@ -53,7 +53,7 @@ ula-shown b bank line u p ports frame clip plus pal place out eu ep eo ef ec es 
 -- the tilemap's dots over and under those of a line, from the parts that are read
 pub tiles-shown : (b bank : List ℕ) (line : LineNumber) (u : Ula) (t : Tiles) (clip pal : List ℕ) (place : ℕ) (old out : List ℕ)
     → u ≡ stateIn b .ula → t ≡ stateIn b .tiles → clip ≡ stateIn b .tileclip → place ≡ cond (tileSecondShown t) 1638 1126 → pal ≡ rowAt pair 256 b place
-    → out ≡ tab (λ (k : ℕ). composed (stencilOn u t) (cond (tileSecondShown t) pal pal) (getD old k 0) (tileDot (windowOf t clip line) (layoutOf t (ulaOn u)) (t .transparent) bank (line .0) k)) 640
+    → out ≡ tab (λ (k : ℕ). composed (stencilOn u t) (cond (tileSecondShown t) pal pal) (getD old k 0) (tileDot (windowOf t clip line) (setupOf t (ulaOn u)) (t .transparent) bank (line .0) k)) 640
     → out ≡ tab (λ (k : ℕ). composed (stencilOn (stateIn b .ula) (stateIn b .tiles)) (tilePalette (stateIn b)) (getD old k 0) (tileDotOf (stateIn b) bank line k)) 640
 unfolding tileDotOf
 tiles-shown b bank line u t clip pal place old out eu et ec el ea e =
@@ -62,7 +62,7 @@ tiles-shown b bank line u t clip pal place old out eu et ec el ea e =
 
 module _ (s : State) (ula tile : List ℕ) (line : LineNumber) (old : List ℕ) (e : old ≡ tab (ulaDot s ula line) 640) where
   bare-dot : (k : ℕ) → tilemapOn (s .tiles) ≡ false → ulaDot s ula line k ≡ composedDot s ula tile line k
-  unfolding composedDot tileDotOf tileDot windowOf composed tileColour above
+  unfolding composedDot tileDotOf tileDot windowOf composed tileColour topDot
   bare-dot k o = rw (o, right-false (stencilSet (s .ula) && ulaOn (s .ula)) refl)
 
   -- without the tilemap the ULA's dots are the line

@@ -5,7 +5,7 @@ use mathlib.Core.List.{List}
 use Prim.Native.Nat.{ℕ}
 use lib.ListN.{length}
 use Rattle.state.specs.Lawful.{lawfulState}
-use Rattle.layout.specs.Record.{recordLength, stateIn}
+use Rattle.record_layout.specs.Record.{recordLength, stateIn}
 
 -- as many bytes as a record has, and a lawful state in them
 pub record Held (b : List ℕ) : Type 0 where

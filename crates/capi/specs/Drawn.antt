@@ -4,7 +4,7 @@ use mathlib.Core.List.{List}
 use lib.ListN.{length}
 use Rattle.reply.specs.declared.Reply.{Reply}
 use Rattle.surface.specs.declared.lines.LineNumber.{LineNumber}
-use Rattle.layout.specs.Record.{readRecord}
+use Rattle.record_layout.specs.Record.{readRecord}
 use Rattle.line.specs.Lines.{drawnLine}
 use Rattle.line.specs.Replies.{lineReply, lengthsReply, firstOf, drawReply, drawnIf}
 

@@ -5,10 +5,10 @@ use mathlib.Core.List.{List}
 use mathlib.Core.Bool.{cond}
 use Rattle.state.specs.declared.State.{State}
 use Rattle.state.specs.declared.Answer.{Answer}
-use Rattle.answers.specs.declared.Reading.{Reading}
-use Rattle.answers.specs.Answers.{unread}
+use Rattle.register_answers.specs.declared.Reading.{Reading}
+use Rattle.register_answers.specs.Answers.{unread}
 use Rattle.reply.specs.Reply.{isDone}
-use Rattle.layout.specs.Record.{readRecord, writtenIn}
+use Rattle.record_layout.specs.Record.{readRecord, writtenIn}
 
 -- what a call that changes a state answers on the state in a lent record, or the refusal of the record
 unfoldable pub lentAnswer : (State → Answer) → List ℕ → Answer

@@ -4,7 +4,7 @@ ghost use Rattle.reply.specs.Reply.{replyNumber};
 ghost use Rattle.state.specs.Reset.{resetState};
 ghost use Rattle.state.specs.Frame.{nextFrame};
 ghost use Rattle.registers.specs.Registers.{writeRegister, writePort};
-ghost use Rattle.layout.specs.Record.{writeReply, writtenIn};
+ghost use Rattle.record_layout.specs.Record.{writeReply, writtenIn};
 ghost use Rattle.capi.specs.Lent.{lentAnswer, lentAfter};
 use reply::number;
 use state::Answer;

@@ -7,7 +7,7 @@ ghost use Rattle.lists.specs.Tab.{tab};
 ghost use Rattle.state.specs.Bits.{ulaSecondShown, tileSecondShown};
 ghost use Rattle.surface.specs.Lines.{isLine};
 ghost use Rattle.ula.specs.Display.{ulaDot};
-ghost use Rattle.layout.specs.Record.{stateIn};
+ghost use Rattle.record_layout.specs.Record.{stateIn};
 ghost use Rattle.line.specs.Compose.{composed};
 ghost use Rattle.line.specs.Lines.{stencilOn, tilePalette, tileDotOf, composedLine, drawnLine};
 ghost use Rattle.line.specs.Replies.{drawReply, drawnIf};
@@ -41,14 +41,14 @@ fn lay_ula(lent: &[u8], bank: &[u8], line: LineNumber, dots: &mut [u16])
     requires { ⌜ (Held (now lent)) × (isLine line ≡ true) × (length (now bank) ≡ 16384) × (length (now dots) ≡ 640) ⌝ }
     ensures { λ r. ⌜ now (dots .exit) ≡ tab (ulaDot (stateIn (now (lent .entry))) (now (bank .entry)) line) 640 ⌝ }
 {
-    let u = parts::ula_at(lent);
-    let p = parts::palette_at(lent);
-    let ports = parts::ports_at(lent);
+    let u = record_parts::ula_at(lent);
+    let p = record_parts::palette_at(lent);
+    let ports = record_parts::ports_at(lent);
     let frame = lent[37];
-    let clip = parts::clip_at(lent, 21);
-    let plus = parts::plus_at(lent);
+    let clip = record_parts::clip_at(lent, 21);
+    let plus = record_parts::plus_at(lent);
     let place = ula_place(p);
-    let pal = parts::colours_at(lent, place);
+    let pal = record_parts::colours_at(lent, place);
     ula::ula_row(
         u,
         p,
@@ -70,11 +70,11 @@ fn lay_tiles(lent: &[u8], bank: &[u8], line: LineNumber, dots: &mut [u16])
     ensures { λ r. ⌜ now (dots .exit) ≡ tab (λ (k : ℕ). composed (stencilOn (stateIn (now (lent .entry)) .ula) (stateIn (now (lent .entry)) .tiles)) (tilePalette (stateIn (now (lent .entry))))
         (getD (now (dots .entry)) k 0) (tileDotOf (stateIn (now (lent .entry))) (now (bank .entry)) line k)) 640 ⌝ }
 {
-    let u = parts::ula_at(lent);
-    let t = parts::tiles_at(lent);
-    let clip = parts::clip_at(lent, 25);
+    let u = record_parts::ula_at(lent);
+    let t = record_parts::tiles_at(lent);
+    let clip = record_parts::clip_at(lent, 25);
     let place = tile_place(t);
-    let pal = parts::colours_at(lent, place);
+    let pal = record_parts::colours_at(lent, place);
     line::tiles_over(u, t, &clip, &pal, &pal, bank, line, dots);
 }
 
@@ -84,7 +84,7 @@ fn lay_layers(lent: &[u8], ula: &[u8], tile: &[u8], line: LineNumber, dots: &mut
     ensures { λ r. ⌜ now (dots .exit) ≡ composedLine (stateIn (now (lent .entry))) (now (ula .entry)) (now (tile .entry)) line ⌝ }
 {
     lay_ula(lent, ula, line, dots);
-    let t = parts::tiles_at(lent);
+    let t = record_parts::tiles_at(lent);
     if state::tilemap_on(t) {
         lay_tiles(lent, tile, line, dots);
     }
@@ -95,7 +95,7 @@ fn draw_line(lent: &[u8], ula: &[u8], tile: &[u8], line: LineNumber, dots: &mut 
     ensures { λ r. ⌜ now (dots .exit) ≡ drawnLine (stateIn (now (lent .entry))) (now (ula .entry)) (now (tile .entry)) line ⌝ }
 {
     lay_layers(lent, ula, tile, line, dots);
-    let u = parts::ula_at(lent);
+    let u = record_parts::ula_at(lent);
     line::finish_line(colour::widen(u.fallback), dots);
 }
 
@@ -105,10 +105,10 @@ pub fn draw_held(lent: &[u8], ula: &[u8], tile: &[u8], line: LineNumber, dots: &
     ensures { λ r. ⌜ (r ≡ drawReply line (length (now (ula .entry))) (length (now (tile .entry))) (length (now (dots .entry))) (stateIn (now (lent .entry))))
         × (now (dots .exit) ≡ drawnIf r (drawnLine (stateIn (now (lent .entry))) (now (ula .entry)) (now (tile .entry)) line) (now (dots .entry))) ⌝ }
 {
-    let u = parts::ula_at(lent);
-    let t = parts::tiles_at(lent);
-    let p = parts::palette_at(lent);
-    let ports = parts::ports_at(lent);
+    let u = record_parts::ula_at(lent);
+    let t = record_parts::tiles_at(lent);
+    let p = record_parts::palette_at(lent);
+    let ports = record_parts::ports_at(lent);
     let r = line::state_reply(u, t, p, ports);
     if number(r) == 0 {
         draw_line(lent, ula, tile, line, dots);

@@ -5,7 +5,8 @@ use mathlib.Core.Bool.{Bool, true, _&&_, _||_}
 use lib.Dec.{leb, ltb, eqb}
 use borrow.Author.Tests.{leb-true, ltb-true}
 use Rattle.lists.proofs.Cond.{left-true, right-true}
-use Rattle.state.specs.Lawful.{isMask, isChoice, lawfulUla, lawfulPalette, lawfulTiles, lawfulTurns, lawfulPorts, allColours, lawfulState}
+use Rattle.state.specs.Bounds.{isMask, isChoice}
+use Rattle.state.specs.Lawful.{lawfulUla, lawfulPalette, lawfulTiles, lawfulTurns, lawfulPorts, allColours, lawfulState}
 use Rattle.state.specs.declared.State.{State}
 
 -- the five parts of a chain of five tests

@@ -16,7 +16,7 @@ use Rattle.state.specs.Lawful.{allColours}
 use Rattle.state.specs.declared.State.{State}
 use Rattle.state.specs.declared.Ula.{Ula}
 use Rattle.state.specs.declared.Tiles.{Tiles}
-use Rattle.surface.specs.Dots.{clipped, above}
+use Rattle.surface.specs.Dots.{clipped, topDot}
 use Rattle.surface.specs.declared.lines.LineNumber.{LineNumber}
 use Rattle.ula.specs.Display.{ulaDot}
 use Rattle.ula.specs.Bounds.{shownState}
@@ -25,9 +25,9 @@ use Rattle.ula.proofs.Parts.{same-dots}
 use Rattle.tilemap.specs.Index.{widthOf, txOf, tyOf, cellOf, entryAt, entryPixel}
 use Rattle.tilemap.specs.Dots.{codeOf, codeAt, acrossOf, tileDot}
 use Rattle.tilemap.specs.Shades.{shadeOf, shadeAt, tileRow}
-use Rattle.tilemap.specs.Bounds.{Laid}
-use Rattle.tilemap.specs.Setup.{windowOf, layoutOf}
-use Rattle.tilemap.specs.declared.rule.Layout.{Layout}
+use Rattle.tilemap.specs.Bounds.{SetupBounds}
+use Rattle.tilemap.specs.Setup.{windowOf, setupOf}
+use Rattle.tilemap.specs.declared.rule.TileSetup.{TileSetup}
 use Rattle.tilemap.specs.declared.setup.Window.{Window}
 use Rattle.tilemap.proofs.Rows.{row-at}
 use Rattle.tilemap.proofs.Within.{pixel-below, high-below}
@@ -41,24 +41,24 @@ pub rest-step : (out old : List ℕ) (k a : ℕ) → ((j : ℕ) → k ≤ j → 
 rest-step out old k a h j g = getD-set-other out k j a 0 (λ e. omega arith) ∙ h j (omega arith)
 
 -- a dot's place in the row of shades
-across-within : (wide : Bool) (k : ℕ) → k < 640 → acrossOf wide k < widthOf wide
+across-within : (columns80 : Bool) (k : ℕ) → k < 640 → acrossOf columns80 k < widthOf columns80
 across-within true k h = omega arith
 across-within false k h = omega arith
 
 -- the three steps of composing a row
-pub composed-row : (stencil : Bool) (row old dots cut out : List ℕ) (wide : Bool) (skew left right : ℕ)
-    → dots ≡ tab (λ (k : ℕ). getD row (skew + acrossOf wide k) 0) 640 → cut ≡ tab (λ (k : ℕ). clipped (k / 2) left right (getD dots k 0)) 640
+pub composed-row : (stencil : Bool) (row old dots cut out : List ℕ) (columns80 : Bool) (skew left right : ℕ)
+    → dots ≡ tab (λ (k : ℕ). getD row (skew + acrossOf columns80 k) 0) 640 → cut ≡ tab (λ (k : ℕ). clipped (k / 2) left right (getD dots k 0)) 640
     → out ≡ tab (λ (k : ℕ). shadeOver stencil (getD old k 0) (getD cut k 0)) 640
-    → out ≡ tab (λ (k : ℕ). shadeOver stencil (getD old k 0) (clipped (k / 2) left right (getD row (skew + acrossOf wide k) 0))) 640
-composed-row stencil row old dots cut out wide skew left right d c e =
+    → out ≡ tab (λ (k : ℕ). shadeOver stencil (getD old k 0) (clipped (k / 2) left right (getD row (skew + acrossOf columns80 k) 0))) 640
+composed-row stencil row old dots cut out columns80 skew left right d c e =
     e ∙ tab-ext _ _ 640 (λ k h.
     ap (shadeOver stencil (getD old k 0))
     (ap (λ (l : List ℕ). getD l k 0) c ∙ getD-tab (λ (j : ℕ). clipped (j / 2) left right (getD dots j 0)) 640 k h
-    ∙ ap (clipped (k / 2) left right) (ap (λ (l : List ℕ). getD l k 0) d ∙ getD-tab (λ (j : ℕ). getD row (skew + acrossOf wide j) 0) 640 k h)))
+    ∙ ap (clipped (k / 2) left right) (ap (λ (l : List ℕ). getD l k 0) d ∙ getD-tab (λ (j : ℕ). getD row (skew + acrossOf columns80 j) 0) 640 k h)))
 
 -- where no tile shows, the ULA's dot stays, and nothing is left of it under a stencil
 bare : (pal : List ℕ) (u : ℕ) → u ≡ composed false pal u 512
-unfolding composed tileColour above
+unfolding composed tileColour topDot
 bare pal u = refl
 
 none-left : (b : Bool) (x : ℕ) → 512 ≡ cond (b || true) 512 x
@@ -69,30 +69,30 @@ stencilled-bare : (pal : List ℕ) (u : ℕ) → 512 ≡ composed true pal u 512
 unfolding composed tileColour stencilled
 stencilled-bare pal u = none-left (eqb u 512) _
 
-module _ (t : Layout) (w : Window) (clear : ℕ) (stencil : Bool) (pal bank out : List ℕ) (y : ℕ) where
+module _ (t : TileSetup) (w : Window) (transparent : ℕ) (stencil : Bool) (pal bank out : List ℕ) (y : ℕ) where
   abbrev laid : ℕ → ℕ
-  laid k = composed stencil pal (getD out k 0) (tileDot w t clear bank y k)
+  laid k = composed stencil pal (getD out k 0) (tileDot w t transparent bank y k)
 
-  pub layered-on : (row rest shades : List ℕ) → w .on ≡ true → Laid t → allColours pal ≡ true → ((i : ℕ) → getD bank i 0 < 256)
-      → shades ≡ shadesOf pal clear → row ≡ tileRow t shades bank y ++ rest
-      → tab (λ (k : ℕ). shadeOver stencil (getD out k 0) (clipped (k / 2) (w .left) (w .right) (getD row (t .x % 8 + acrossOf (t .wide) k) 0))) 640
+  pub layered-on : (row rest shades : List ℕ) → w .on ≡ true → SetupBounds t → allColours pal ≡ true → ((i : ℕ) → getD bank i 0 < 256)
+      → shades ≡ shadesOf pal transparent → row ≡ tileRow t shades bank y ++ rest
+      → tab (λ (k : ℕ). shadeOver stencil (getD out k 0) (clipped (k / 2) (w .left) (w .right) (getD row (t .x % 8 + acrossOf (t .columns80) k) 0))) 640
       ≡ tab laid 640
   unfolding tileDot shadeAt codeAt
   layered-on row rest shades o l a f s q =
-      let e : row ≡ tileRow t (shadesOf pal clear) bank y ++ rest = q ∙ ap (λ (v : List ℕ). tileRow t v bank y ++ rest) s in
+      let e : row ≡ tileRow t (shadesOf pal transparent) bank y ++ rest = q ∙ ap (λ (v : List ℕ). tileRow t v bank y ++ rest) s in
       tab-ext _ _ 640 (λ k h.
       let u = getD out k 0 in
-      let x = acrossOf (t .wide) k in
-      let cell = cellOf (t .wide) (txOf t x) (tyOf t y) in
+      let x = acrossOf (t .columns80) k in
+      let cell = cellOf (t .columns80) (txOf t x) (tyOf t y) in
       let d = entryAt t bank cell in
       let pixel = entryPixel t bank d (txOf t x % 8) (tyOf t y % 8) in
       ap (λ (v : ℕ). shadeOver stencil u (clipped (k / 2) (w .left) (w .right) v))
-      (ap (λ (r : List ℕ). getD r (t .x % 8 + x) 0) e ∙ row-at t (shadesOf pal clear) bank y rest x (across-within (t .wide) k h))
-      ∙ shade-clipped stencil pal u (k / 2) (w .left) (w .right) (shadeOf (shadesOf pal clear) (d .high) pixel) (codeOf clear (d .high) pixel)
-      (shade-composed stencil pal u clear (d .high) pixel a (high-below t bank cell l f) (pixel-below t bank d (txOf t x % 8) (tyOf t y % 8)))
+      (ap (λ (r : List ℕ). getD r (t .x % 8 + x) 0) e ∙ row-at t (shadesOf pal transparent) bank y rest x (across-within (t .columns80) k h))
+      ∙ shade-clipped stencil pal u (k / 2) (w .left) (w .right) (shadeOf (shadesOf pal transparent) (d .high) pixel) (codeOf transparent (d .high) pixel)
+      (shade-composed stencil pal u transparent (d .high) pixel a (high-below t bank cell l f) (pixel-below t bank d (txOf t x % 8) (tyOf t y % 8)))
       ∙ ap (composed stencil pal u) (sym (if-true (w .on) _ _ o)))
 
-  no-tile : w .on ≡ false → (k : ℕ) → 512 ≡ tileDot w t clear bank y k
+  no-tile : w .on ≡ false → (k : ℕ) → 512 ≡ tileDot w t transparent bank y k
   unfolding tileDot
   no-tile o k = sym (if-false (w .on) _ _ o)
 
@@ -113,11 +113,11 @@ module _ (t : Layout) (w : Window) (clear : ℕ) (stencil : Bool) (pal bank out 
       ∙ ap (composed stencil pal (getD out k 0)) (no-tile o k))
 
 -- what the state says of the tilemap, put in its place
-pub tiles-of : (u : Ula) (v : Tiles) (clip first second bank pal old out : List ℕ) (line : LineNumber) (t : Layout) (w : Window) (stencil : Bool)
+pub tiles-of : (u : Ula) (v : Tiles) (clip first second bank pal old out : List ℕ) (line : LineNumber) (t : TileSetup) (w : Window) (stencil : Bool)
     → out ≡ tab (λ (k : ℕ). composed stencil pal (getD old k 0) (tileDot w t (v .transparent) bank (line .0) k)) 640
-    → pal ≡ cond (tileSecondShown v) second first → t ≡ layoutOf v (ulaOn u) → w ≡ windowOf v clip line → stencil ≡ stencilOn u v
+    → pal ≡ cond (tileSecondShown v) second first → t ≡ setupOf v (ulaOn u) → w ≡ windowOf v clip line → stencil ≡ stencilOn u v
     → out ≡ tab (λ (k : ℕ). composed (stencilOn u v) (cond (tileSecondShown v) second first) (getD old k 0)
-    (tileDot (windowOf v clip line) (layoutOf v (ulaOn u)) (v .transparent) bank (line .0) k)) 640
+    (tileDot (windowOf v clip line) (setupOf v (ulaOn u)) (v .transparent) bank (line .0) k)) 640
 tiles-of u v clip first second bank pal old out line t w stencil e ep et ew es =
     e ∙ tab-ext _ _ 640 (λ k h. rw (ep, et, ew, es))
 
@@ -130,7 +130,7 @@ layered-line s line ula tile u out d e = e ∙ tab-ext _ _ 640 (λ k h. rw (d, g
 
 pub whole-line : (s : State) (line : LineNumber) (ula tile u out : List ℕ)
     → out ≡ tab (λ (k : ℕ). composed (stencilOn (s .ula) (s .tiles)) (cond (tileSecondShown (s .tiles)) (s .tilesecond) (s .tilefirst)) (getD u k 0)
-    (tileDot (windowOf (s .tiles) (s .tileclip) line) (layoutOf (s .tiles) (ulaOn (s .ula))) (s .tiles .transparent) tile (line .0) k)) 640
+    (tileDot (windowOf (s .tiles) (s .tileclip) line) (setupOf (s .tiles) (ulaOn (s .ula))) (s .tiles .transparent) tile (line .0) k)) 640
     → u ≡ tab (ulaDot (shownState (s .ula) (s .palette) (s .ports) (s .frame) (s .ulaclip) (s .plus) (s .ulafirst) (s .ulasecond)) ula line) 640
     → out ≡ composedLine s ula tile line
 unfolding tileDotOf tilePalette
@@ -141,5 +141,5 @@ pub finished-line : (s : State) (line : LineNumber) (ula tile row out : List ℕ
 unfolding finished composedLine drawnLine lineDot
 finished-line s line ula tile row out fallback e er ef =
     e ∙ tab-ext _ _ 640 (λ k h.
-    ap (λ (f : ℕ). above (getD row k 0) f) ef
-    ∙ ap (λ (v : ℕ). above v (widened (s .ula .fallback))) (ap (λ (r : List ℕ). getD r k 0) er ∙ getD-tab (composedDot s ula tile line) 640 k h))
+    ap (λ (f : ℕ). topDot (getD row k 0) f) ef
+    ∙ ap (λ (v : ℕ). topDot v (widened (s .ula .fallback))) (ap (λ (r : List ℕ). getD r k 0) er ∙ getD-tab (composedDot s ula tile line) 640 k h))

@@ -10,13 +10,13 @@ use borrow.Author.Tests.{leb-true, eqb-true, ne-eqb}
 use Rattle.lists.proofs.Cond.{left-true, right-true}
 use Rattle.lists.proofs.Tab.{getD-tab}
 use Rattle.state.specs.Lawful.{allColours}
-use Rattle.surface.specs.Dots.{inside, clipped, above}
+use Rattle.surface.specs.Dots.{inside, clipped, topDot}
 use Rattle.tilemap.specs.Index.{indexOf}
 use Rattle.tilemap.specs.Dots.{codeOf}
 use Rattle.tilemap.specs.Shades.{shadeFrom, shadeOf}
 use Rattle.tilemap.specs.Bounds.{Shaded}
 use Rattle.line.specs.Compose.{tileColour, stencilled, composed}
-use Rattle.line.specs.Shades.{unlessClear, shadesOf, shadeOver}
+use Rattle.line.specs.Shades.{unlessTransparent, shadesOf, shadeOver}
 
 -- a palette of colours has one at each index
 colour-at : (pal : List ℕ) → allColours pal ≡ true → (i : ℕ) → getD pal i 0 ≤ 511
@@ -29,12 +29,12 @@ within : (b : Bool) (x : ℕ) → x ≤ 511 → cond b 512 x ≤ 512
 within true x h = omega arith
 within false x h = omega arith
 
-pub shaded : (shades pal : List ℕ) (clear : ℕ) → shades ≡ shadesOf pal clear → allColours pal ≡ true → Shaded shades
+pub shaded : (shades pal : List ℕ) (transparent : ℕ) → shades ≡ shadesOf pal transparent → allColours pal ≡ true → Shaded shades
 unfolding shadesOf
-shaded shades pal clear q e =
+shaded shades pal transparent q e =
     record {
       most =
-          λ i h. rw (q, getD-tab (λ (j : ℕ). unlessClear clear j (getD pal j 0)) 256 i h) (within (eqb (i % 16) clear) (getD pal i 0) (colour-at pal e i));
+          λ i h. rw (q, getD-tab (λ (j : ℕ). unlessTransparent transparent j (getD pal j 0)) 256 i h) (within (eqb (i % 16) transparent) (getD pal i 0) (colour-at pal e i));
     }
 
 -- whichever palette is shown
@@ -44,8 +44,8 @@ shown-colours true pal first second e f g = ap allColours e ∙ g
 shown-colours false pal first second e f g = ap allColours e ∙ f
 
 -- a transparent tile dot may lie over the ULA's or under it
-under-none : (u : ℕ) → above u 512 ≡ u
-unfolding above
+under-none : (u : ℕ) → topDot u 512 ≡ u
+unfolding topDot
 under-none u = go (eqb u 512) refl
   where
     go : (b : Bool) → eqb u 512 ≡ b → cond b 512 u ≡ u
@@ -53,8 +53,8 @@ under-none u = go (eqb u 512) refl
     go false e = refl
 
 module _ (stencil : Bool) (pal : List ℕ) (u : ℕ) where
-  either : (b : Bool) → cond b (above u 512) (above 512 u) ≡ above 512 u
-  unfolding above
+  either : (b : Bool) → cond b (topDot u 512) (topDot 512 u) ≡ topDot 512 u
+  unfolding topDot
   either true = under-none u
   either false = refl
 
@@ -76,16 +76,16 @@ module _ (stencil : Bool) (pal : List ℕ) (u : ℕ) where
       let d : (i + h * 256) / 256 ≡ h = omega arith in
       rw (t, q, ne-eqb (i + h * 256) 512 (λ z. omega arith), m, d, e)
 
-  pub shade-composed : (clear high pixel : ℕ) → allColours pal ≡ true → high < 256 → pixel < 16
-      → shadeOver stencil u (shadeOf (shadesOf pal clear) high pixel) ≡ composed stencil pal u (codeOf clear high pixel)
+  pub shade-composed : (transparent high pixel : ℕ) → allColours pal ≡ true → high < 256 → pixel < 16
+      → shadeOver stencil u (shadeOf (shadesOf pal transparent) high pixel) ≡ composed stencil pal u (codeOf transparent high pixel)
   unfolding shadeFrom shadesOf codeOf
-  shade-composed clear high pixel a lh lp =
+  shade-composed transparent high pixel a lh lp =
       let i = indexOf high pixel in
       let l : i < 256 = omega arith in
       let m : i % 16 ≡ pixel = omega arith in
       ap (λ (v : ℕ). shadeOver stencil u (v + high % 2 * 1024))
-      (getD-tab (λ (j : ℕ). unlessClear clear j (getD pal j 0)) 256 i l ∙ ap (λ (p : ℕ). cond (eqb p clear) 512 (getD pal i 0)) m)
-      ∙ go i l (eqb pixel clear)
+      (getD-tab (λ (j : ℕ). unlessTransparent transparent j (getD pal j 0)) 256 i l ∙ ap (λ (p : ℕ). cond (eqb p transparent) 512 (getD pal i 0)) m)
+      ∙ go i l (eqb pixel transparent)
     where
       go : (i : ℕ) → i < 256 → (b : Bool)
           → shadeOver stencil u (cond b 512 (getD pal i 0) + high % 2 * 1024) ≡ composed stencil pal u (cond b 512 (i + high % 2 * 256))

@@ -9,11 +9,11 @@ use Rattle.state.specs.Bits.{ulaOn, stencilSet, tilemapOn, tileSecondShown}
 use Rattle.state.specs.declared.State.{State}
 use Rattle.state.specs.declared.Ula.{Ula}
 use Rattle.state.specs.declared.Tiles.{Tiles}
-use Rattle.surface.specs.Dots.{above}
+use Rattle.surface.specs.Dots.{topDot}
 use Rattle.surface.specs.declared.lines.LineNumber.{LineNumber}
 use Rattle.ula.specs.Display.{ulaDot}
 use Rattle.tilemap.specs.Dots.{tileDot}
-use Rattle.tilemap.specs.Setup.{layoutOf, windowOf}
+use Rattle.tilemap.specs.Setup.{setupOf, windowOf}
 use Rattle.line.specs.Compose.{composed}
 
 -- $6B: bit 4 the tilemap palette shown
@@ -27,7 +27,7 @@ stencilOn u t = stencilSet u && ulaOn u && tilemapOn t
 -- dot k of a line of the tilemap
 unfoldable pub tileDotOf : State → List ℕ → LineNumber → ℕ → ℕ
 tileDotOf s bank line =
-    tileDot (windowOf (s .tiles) (s .tileclip) line) (layoutOf (s .tiles) (ulaOn (s .ula))) (s .tiles .transparent) bank (line .0)
+    tileDot (windowOf (s .tiles) (s .tileclip) line) (setupOf (s .tiles) (ulaOn (s .ula))) (s .tiles .transparent) bank (line .0)
 
 -- dot k before the fallback: a colour, or 512 for transparent
 unfoldable pub composedDot : State → List ℕ → List ℕ → LineNumber → ℕ → ℕ
@@ -39,11 +39,11 @@ composedLine s ula tile line = tab (composedDot s ula tile line) 640
 
 -- the fallback over a composed line
 unfoldable pub finished : ℕ → List ℕ → List ℕ
-finished fallback row = tab (λ (k : ℕ). above (getD row k 0) fallback) 640
+finished fallback row = tab (λ (k : ℕ). topDot (getD row k 0) fallback) 640
 
 -- dot k; transparent at the end: the fallback, widened as $41
 unfoldable pub lineDot : State → List ℕ → List ℕ → LineNumber → ℕ → ℕ
-lineDot s ula tile line k = above (composedDot s ula tile line k) (widened (s .ula .fallback))
+lineDot s ula tile line k = topDot (composedDot s ula tile line k) (widened (s .ula .fallback))
 
 -- one line as 640 dots
 unfoldable pub drawnLine : State → List ℕ → List ℕ → LineNumber → List ℕ

@@ -15,7 +15,7 @@ use Rattle.state.specs.declared.Palette.{Palette}
 use Rattle.state.specs.declared.Ports.{Ports}
 use Rattle.surface.specs.Lines.{isLine}
 use Rattle.surface.specs.declared.lines.LineNumber.{LineNumber}
-use Rattle.address.specs.Modes.{modeOf, isMissing}
+use Rattle.ula_address.specs.Modes.{modeOf, isMissing}
 use Rattle.tilemap.specs.Index.{widthOf}
 
 -- 1: line above 255

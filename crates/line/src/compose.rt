@@ -21,12 +21,12 @@ fn composed_dot(stencil: bool, u: u16, v: u16) -> u16
 {
     let t = v % 1024;
     let both = stencil_dot(u, t);
-    let below = surface::over(u, t);
-    let above = surface::over(t, u);
+    let ula_first = surface::top_dot(u, t);
+    let tile_first = surface::top_dot(t, u);
     if stencil {
         both
     } else {
-        if v / 1024 == 1 { below } else { above }
+        if v / 1024 == 1 { ula_first } else { tile_first }
     }
 }
 
@@ -55,11 +55,11 @@ fn double_dots(row: &[u16], skew: usize, dots: &mut [u16])
 }
 
 // The shades of a line's dots.
-fn row_dots(row: &[u16], wide: bool, skew: usize, dots: &mut [u16])
+fn row_dots(row: &[u16], columns80: bool, skew: usize, dots: &mut [u16])
     requires { ⌜ (length (now row) ≡ 648) × (skew < 8) × (length (now dots) ≡ 640) ⌝ }
-    ensures { λ r. ⌜ now (dots .exit) ≡ tab (λ (k : ℕ). getD (now (row .entry)) (skew + acrossOf wide k) 0) 640 ⌝ }
+    ensures { λ r. ⌜ now (dots .exit) ≡ tab (λ (k : ℕ). getD (now (row .entry)) (skew + acrossOf columns80 k) 0) 640 ⌝ }
 {
-    if wide {
+    if columns80 {
         single_dots(row, skew, dots);
     } else {
         double_dots(row, skew, dots);
@@ -107,17 +107,17 @@ fn compose_dots(stencil: bool, dots: &[u16], out: &mut [u16])
 pub fn compose_row(
     stencil: bool,
     row: &[u16],
-    wide: bool,
+    columns80: bool,
     skew: usize,
     left: usize,
     right: usize,
     out: &mut [u16],
 )
     requires { ⌜ (length (now row) ≡ 648) × (skew < 8) × (length (now out) ≡ 640) ⌝ }
-    ensures { λ r. ⌜ now (out .exit) ≡ tab (λ (k : ℕ). shadeOver stencil (getD (now (out .entry)) k 0) (clipped (k / 2) left right (getD (now (row .entry)) (skew + acrossOf wide k) 0))) 640 ⌝ }
+    ensures { λ r. ⌜ now (out .exit) ≡ tab (λ (k : ℕ). shadeOver stencil (getD (now (out .entry)) k 0) (clipped (k / 2) left right (getD (now (row .entry)) (skew + acrossOf columns80 k) 0))) 640 ⌝ }
 {
     let mut dots = [0u16; 640];
-    row_dots(row, wide, skew, &mut dots);
+    row_dots(row, columns80, skew, &mut dots);
     clip_dots(left, right, &mut dots);
     compose_dots(stencil, &dots, out);
 }

@@ -8,17 +8,17 @@ ghost use Rattle.state.specs.Bits.{ulaOn, tileSecondShown};
 ghost use Rattle.state.specs.Lawful.{allColours, lawfulState};
 ghost use Rattle.surface.specs.Lines.{isLine};
 ghost use Rattle.tilemap.specs.Dots.{tileDot};
-ghost use Rattle.tilemap.specs.Setup.{layoutOf, windowOf};
-ghost use Rattle.tilemap.specs.Bounds.{Laid};
+ghost use Rattle.tilemap.specs.Setup.{setupOf, windowOf};
+ghost use Rattle.tilemap.specs.Bounds.{SetupBounds};
 ghost use Rattle.line.specs.Compose.{composed};
-ghost use Rattle.line.specs.Shades.{unlessClear, shadesOf};
+ghost use Rattle.line.specs.Shades.{unlessTransparent, shadesOf};
 ghost use Rattle.line.specs.Lines.{stencilOn, composedLine, finished};
 use crate::compose::compose_row;
 use state::State;
 use state::Tiles;
 use state::Ula;
 use surface::LineNumber;
-use tilemap::Layout;
+use tilemap::TileSetup;
 use tilemap::Window;
 
 // The palette shown is lent, not copied.
@@ -41,43 +41,43 @@ fn stencil_on(u: Ula, t: Tiles) -> bool
 }
 
 // A colour of the palette at an index, or 512 where the pixel there is the transparent one.
-fn unless_clear(clear: u8, i: u8, colour: u16) -> u16
-    ensures { λ r. ⌜ r ≡ unlessClear clear i colour ⌝ }
+fn unless_transparent(transparent: u8, i: u8, colour: u16) -> u16
+    ensures { λ r. ⌜ r ≡ unlessTransparent transparent i colour ⌝ }
 {
-    if i % 16 == clear { 512 } else { colour }
+    if i % 16 == transparent { 512 } else { colour }
 }
 
 // The palette lent, with 512 at each index of the transparent pixel: no dot of a line is then tested for it.
-fn shade_palette(pal: &[u16; 256], clear: u8, out: &mut [u16])
+fn shade_palette(pal: &[u16; 256], transparent: u8, out: &mut [u16])
     requires { ⌜ length (now out) ≡ 256 ⌝ }
-    ensures { λ r. ⌜ now (out .exit) ≡ shadesOf (now (pal .entry)) clear ⌝ }
+    ensures { λ r. ⌜ now (out .exit) ≡ shadesOf (now (pal .entry)) transparent ⌝ }
 {
     for i in 0..256 {
-        out[i] = unless_clear(clear, i as u8, pal[i]);
+        out[i] = unless_transparent(transparent, i as u8, pal[i]);
     }
 }
 
 // The tile dots of a line composed with the ULA's in out. Without a window there is nothing to lay: the ULA's dots stay, or nothing
 // is left of them under a stencil.
 fn layered(
-    t: Layout,
+    t: TileSetup,
     w: Window,
-    clear: u8,
+    transparent: u8,
     stencil: bool,
     pal: &[u16; 256],
     bank: &[u8],
     line: LineNumber,
     out: &mut [u16],
 )
-    requires { ⌜ (Laid t) × (allColours (now pal) ≡ true) × (line .0 < 256) × (length (now bank) ≡ 16384) × (length (now out) ≡ 640) ⌝ }
-    ensures { λ r. ⌜ now (out .exit) ≡ tab (λ (k : ℕ). composed stencil (now (pal .entry)) (getD (now (out .entry)) k 0) (tileDot w t clear (now (bank .entry)) (line .0) k)) 640 ⌝ }
+    requires { ⌜ (SetupBounds t) × (allColours (now pal) ≡ true) × (line .0 < 256) × (length (now bank) ≡ 16384) × (length (now out) ≡ 640) ⌝ }
+    ensures { λ r. ⌜ now (out .exit) ≡ tab (λ (k : ℕ). composed stencil (now (pal .entry)) (getD (now (out .entry)) k 0) (tileDot w t transparent (now (bank .entry)) (line .0) k)) 640 ⌝ }
 {
     if w.on {
         let mut shades = [0u16; 256];
-        shade_palette(pal, clear, &mut shades);
+        shade_palette(pal, transparent, &mut shades);
         let mut row = [0u16; 648];
         tilemap::tile_row(t, &shades, bank, line, &mut row);
-        compose_row(stencil, &row, t.wide, t.x % 8, w.left, w.right, out);
+        compose_row(stencil, &row, t.columns80, t.x % 8, w.left, w.right, out);
     } else {
         if stencil {
             ula::paint(512, out);
@@ -98,11 +98,11 @@ pub fn tiles_over<'a>(
 )
     requires { ⌜ (t .xhigh ≤ 3) × (t .map < 64) × (t .definitions < 64) × (allColours (now first) ≡ true) × (allColours (now second) ≡ true) × (line .0 < 256) × (length (now bank) ≡ 16384) × (length (now out) ≡ 640) ⌝ }
     ensures { λ r. ⌜ now (out .exit) ≡ tab (λ (k : ℕ). composed (stencilOn u t) (cond (tileSecondShown t) (now (second .entry)) (now (first .entry))) (getD (now (out .entry)) k 0)
-        (tileDot (windowOf t (now (clip .entry)) line) (layoutOf t (ulaOn u)) (t .transparent) (now (bank .entry)) (line .0) k)) 640 ⌝ }
+        (tileDot (windowOf t (now (clip .entry)) line) (setupOf t (ulaOn u)) (t .transparent) (now (bank .entry)) (line .0) k)) 640 ⌝ }
 {
     let pal = tile_palette(t, first, second);
     let w = tilemap::window_of(t, clip, line);
-    let l = tilemap::layout_of(t, state::ula_on(u));
+    let l = tilemap::setup_of(t, state::ula_on(u));
     let stencil = stencil_on(u, t);
     layered(l, w, t.transparent, stencil, pal, bank, line, out);
 }
@@ -144,6 +144,6 @@ pub fn finish_line(fallback: u16, out: &mut [u16])
     ensures { λ r. ⌜ now (out .exit) ≡ finished fallback (now (out .entry)) ⌝ }
 {
     for k in 0..640 {
-        out[k] = surface::over(out[k], fallback);
+        out[k] = surface::top_dot(out[k], fallback);
     }
 }

@@ -3,7 +3,7 @@ ghost use mathlib.Core.Path.{_≡_};
 ghost use Prim.Native.Nat.{_+_, _*_, _<_};
 ghost use Rattle.tilemap.specs.Index.{widthOf};
 ghost use Rattle.line.specs.Replies.{lineReply, lengthsReply, lawfulReply, loresWithTiles, nextWithPlus, noMode, farOffset, stateReply, firstOf};
-use lists::wide;
+use lists::usize_of;
 use reply::Reply;
 use state::Palette;
 use state::Ports;
@@ -63,7 +63,7 @@ fn next_with_plus(p: Palette, ports: Ports) -> bool
 fn no_mode(u: Ula, ports: Ports) -> bool
     ensures { λ r. ⌜ r ≡ noMode u ports ⌝ }
 {
-    let missing = address::is_missing(address::mode_of(u, ports));
+    let missing = ula_address::is_missing(ula_address::mode_of(u, ports));
     state::ula_on(u) & missing
 }
 
@@ -77,7 +77,7 @@ fn far_offset(t: Tiles) -> bool
     ensures { λ r. ⌜ r ≡ farOffset t ⌝ }
 {
     let width = width_of(t.control / 64 % 2 == 1);
-    let x = wide(t.xhigh) * 256 + wide(t.xlow);
+    let x = usize_of(t.xhigh) * 256 + usize_of(t.xlow);
     state::tilemap_on(t) & (width <= x)
 }
 

@@ -3,14 +3,14 @@ ghost use mathlib.Core.Path.{_≡_};
 ghost use Prim.Native.Nat.{_<_};
 
 // A byte as an index. The bound goes into the contract, since a cast's own is lost in callers that hold a whole state.
-pub fn wide(x: u8) -> usize
+pub fn usize_of(x: u8) -> usize
     ensures { λ r. ⌜ (r ≡ x) × (r < 256) ⌝ }
 {
     x as usize
 }
 
 // A byte as the lower half of a colour.
-pub fn wide16(x: u8) -> u16
+pub fn u16_of(x: u8) -> u16
     ensures { λ r. ⌜ (r ≡ x) × (r < 256) ⌝ }
 {
     x as u16

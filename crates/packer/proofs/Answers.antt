@@ -12,7 +12,7 @@ use Rattle.lists.proofs.Tab.{length-tab}
 use Rattle.reply.specs.declared.Reply.{Reply}
 use Rattle.reply.specs.declared.Reply.the-variants.{Done, BufferLength, TooManyTiles, PackingBounds}
 use Rattle.reply.specs.Reply.{isDone, replyNumber}
-use Rattle.classes.specs.Turned.{classes}
+use Rattle.pack_classes.specs.Turned.{classes}
 use Rattle.packer.specs.declared.Packing.{Packing}
 use Rattle.packer.specs.Sheet.{named, Bytes, Draws}
 use Rattle.packer.specs.Greedy.{tileCount, mapByte, defByte, packedMap, packedDefs}

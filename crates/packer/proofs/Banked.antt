@@ -10,8 +10,8 @@ use lib.ListN.{length, getD, take, drop, replicate, length-append, length-replic
 use lib.Seq.{getD-take, getD-drop, take-at, drop-at}
 use Rattle.tilemap.specs.Index.{fetched, entryAddress, highOf, entryAt, tileNumber, turnOf, columnOf, rowOf, halfOf, pixelAt, entryPixel, tileIndex}
 use Rattle.tilemap.proofs.Inside.{fetched-inside}
-use Rattle.classes.proofs.Group.{column-small, row-small}
-use Rattle.packer.specs.Sheet.{lowByte, highByte, sheetLayout, Bytes, SetIn, sheetIndex}
+use Rattle.pack_classes.proofs.Group.{column-small, row-small}
+use Rattle.packer.specs.Sheet.{lowByte, highByte, sheetSetup, Bytes, SetIn, sheetIndex}
 use Rattle.packer.specs.Answer.{Setting}
 
 -- a byte of a part of the bank
@@ -42,7 +42,7 @@ module _ (map defs bank : List ℕ) (attribute mb db : ℕ) (s : SetIn map defs 
       let e : db + n * 32 + v * 4 + u / 2 ≡ db + (n * 32 + v * 4 + u / 2) = omega arith in
       ap (fetched bank) e ∙ fetch-at defs db 8192 (n * 32 + v * 4 + u / 2) (s .defs-there) (s .def-fits) (omega arith)
 
-  pub read : (x y : ℕ) → x < 320 → y < 256 → tileIndex (sheetLayout attribute mb db) bank x y ≡ sheetIndex map defs x y
+  pub read : (x y : ℕ) → x < 320 → y < 256 → tileIndex (sheetSetup attribute mb db) bank x y ≡ sheetIndex map defs x y
   unfolding tileIndex sheetIndex entryAt entryAddress highOf tileNumber entryPixel pixelAt
   read x y hx hy =
       let c = y / 8 * 40 + x / 8 in

@@ -7,7 +7,7 @@ use lib.ListN.{getD}
 use borrow.Author.Tests.{lt-ltb, le-ltb}
 use Rattle.lists.specs.Tab.{tab}
 use Rattle.lists.proofs.Tab.{tab-ext}
-use Rattle.classes.specs.Picture.{cellByte}
+use Rattle.pack_classes.specs.Picture.{cellByte}
 use Rattle.packer.specs.Greedy.{defCells, tileCount, defByte}
 
 module _ (pic : List ℕ) (d : ℕ) where

@@ -14,10 +14,10 @@ use lib.Seq.{getD-append-seam}
 use borrow.Author.Tests.{ltb-true, ltb-false}
 use Rattle.lists.specs.Search.{some, firsts}
 use Rattle.lists.proofs.Search.{Found, least-found, some-of, some-at}
-use Rattle.classes.specs.Picture.{cellPixels}
-use Rattle.classes.specs.Turned.{turnedInto, turnFor, canMake, canTurn}
-use Rattle.classes.proofs.Cells.{can-self, can-trans}
-use Rattle.classes.proofs.Rows.{bool-same}
+use Rattle.pack_classes.specs.Picture.{cellPixels}
+use Rattle.pack_classes.specs.Turned.{turnedInto, turnFor, canMake, canTurn}
+use Rattle.pack_classes.proofs.Cells.{can-self, can-trans}
+use Rattle.pack_classes.proofs.Rows.{bool-same}
 use Rattle.packer.specs.Greedy.{placeIn, defCells, tileOf, sourceOf, cellTurn}
 
 -- what a step keeps

@@ -12,11 +12,11 @@ use lib.Seq.{getD-set-same, getD-set-other}
 use borrow.Author.Tests.{eqb-true, eqb-false, lt-ltb}
 use Rattle.lists.specs.Search.{least}
 use Rattle.lists.proofs.Search.{below, least-found, least-here, least-none, not-both}
-use Rattle.classes.specs.Turned.{turnFor, canMake}
-use Rattle.classes.specs.Mark.{markOf}
-use Rattle.classes.specs.Rows.{flipped}
-use Rattle.classes.proofs.Cells.{can-both}
-use Rattle.classes.proofs.Kept.{mark-made}
+use Rattle.pack_classes.specs.Turned.{turnFor, canMake}
+use Rattle.pack_classes.specs.Mark.{markOf}
+use Rattle.pack_classes.specs.Rows.{flipped}
+use Rattle.pack_classes.proofs.Cells.{can-both}
+use Rattle.pack_classes.proofs.Kept.{mark-made}
 use Rattle.packer.specs.declared.place.Place.{Place}
 use Rattle.packer.specs.Bounds.{Listed, Slotted, Named, Found}
 

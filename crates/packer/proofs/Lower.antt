@@ -10,10 +10,10 @@ use borrow.Author.Tests.{eqb-true}
 use Rattle.lists.specs.Search.{firsts, different}
 use Rattle.lists.proofs.Search.{firsts-within}
 use Rattle.tilemap.specs.Index.{turnOf, columnOf, rowOf, halfOf}
-use Rattle.classes.specs.Picture.{pixelOf, cellPixel}
-use Rattle.classes.specs.Turned.{canTurn, classes}
+use Rattle.pack_classes.specs.Picture.{pixelOf, cellPixel}
+use Rattle.pack_classes.specs.Turned.{canTurn, classes}
 use Rattle.tilemap.proofs.Within.{half-below}
-use Rattle.classes.proofs.Cells.{Shows, can-share}
+use Rattle.pack_classes.proofs.Cells.{Shows, can-share}
 use Rattle.packer.specs.Sheet.{lowByte, highByte, named, sheetIndex, Draws}
 use Rattle.packer.proofs.Banked.{turn-small, read}
 

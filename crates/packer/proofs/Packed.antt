@@ -13,10 +13,10 @@ use Rattle.lists.proofs.Search.{some-of, firsts-fewer}
 use Rattle.lists.specs.Tab.{tab}
 use Rattle.lists.proofs.Tab.{getD-tab}
 use Rattle.tilemap.specs.Index.{columnOf, rowOf, halfOf}
-use Rattle.classes.specs.Picture.{pixelOf, cellPixel, cellByte, cellPixels}
-use Rattle.classes.specs.Turned.{canTurn, classes}
-use Rattle.classes.proofs.Group.{column-small, row-small}
-use Rattle.classes.proofs.Cells.{Shows, pixel-half, turned-is}
+use Rattle.pack_classes.specs.Picture.{pixelOf, cellPixel, cellByte, cellPixels}
+use Rattle.pack_classes.specs.Turned.{canTurn, classes}
+use Rattle.pack_classes.proofs.Group.{column-small, row-small}
+use Rattle.pack_classes.proofs.Cells.{Shows, pixel-half, turned-is}
 use Rattle.packer.specs.Sheet.{lowByte, highByte, named, Bytes, sheetIndex}
 use Rattle.packer.specs.Greedy.{placeIn, defCells, tileCount, tileOf, sourceOf, cellTurn, mapByte, defByte, packedMap, packedDefs}
 use Rattle.packer.specs.Answer.{Fewest}

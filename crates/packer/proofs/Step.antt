@@ -12,9 +12,9 @@ use borrow.Author.Tests.{lt-ltb, le-ltb}
 use Rattle.lists.specs.Search.{least}
 use Rattle.lists.proofs.Search.{least-same, least-here, below}
 use Rattle.tilemap.specs.Index.{columnOf, rowOf}
-use Rattle.classes.specs.Picture.{cellPixels}
-use Rattle.classes.specs.Turned.{turnedInto, turnFor, canMake}
-use Rattle.classes.proofs.Cells.{Shows, turned-of}
+use Rattle.pack_classes.specs.Picture.{cellPixels}
+use Rattle.pack_classes.specs.Turned.{turnedInto, turnFor, canMake}
+use Rattle.pack_classes.proofs.Cells.{Shows, turned-of}
 use Rattle.packer.specs.declared.place.Place.{Place}
 use Rattle.packer.specs.Greedy.{placeIn, defCells, tileOf, sourceOf, cellTurn, mapByte}
 use Rattle.packer.specs.Bounds.{Listed, Slotted, Found, Progress}

@@ -5,10 +5,10 @@ use mathlib.Core.Bool.{false}
 use Prim.Native.Nat.{ℕ, _-_, _*_, _%_, _≤_, _<_}
 use lib.ListN.{length, getD}
 use Rattle.lists.specs.Search.{least}
-use Rattle.classes.specs.Picture.{cellPixels}
-use Rattle.classes.specs.Turned.{turnFor, canMake}
-use Rattle.classes.specs.Mark.{markOf}
-use Rattle.classes.specs.Rows.{flipped}
+use Rattle.pack_classes.specs.Picture.{cellPixels}
+use Rattle.pack_classes.specs.Turned.{turnFor, canMake}
+use Rattle.pack_classes.specs.Mark.{markOf}
+use Rattle.pack_classes.specs.Rows.{flipped}
 use Rattle.packer.specs.declared.place.Place.{Place}
 use Rattle.packer.specs.Greedy.{defCells, tileCount, mapByte, packedMap, packedDefs}
 

@@ -4,13 +4,13 @@ use mathlib.Core.List.{List}
 use Prim.Native.Nat.{ℕ, _+_, _*_, _<_}
 use lib.ListN.{getD}
 use Rattle.tilemap.specs.Index.{tileIndex}
-use Rattle.packer.specs.Sheet.{named, sheetLayout, SetIn, sheetIndex}
+use Rattle.packer.specs.Sheet.{named, sheetSetup, SetIn, sheetIndex}
 
 -- in every setting the tilemap rule gives, at each pixel, the index read directly from map and definitions
 abbrev pub SheetRead : Type 0
 SheetRead =
     (map defs bank : List ℕ) (attribute mapBase defBase : ℕ) → SetIn map defs bank mapBase defBase
-    → (x y : ℕ) → x < 320 → y < 256 → tileIndex (sheetLayout attribute mapBase defBase) bank x y ≡ sheetIndex map defs x y
+    → (x y : ℕ) → x < 320 → y < 256 → tileIndex (sheetSetup attribute mapBase defBase) bank x y ≡ sheetIndex map defs x y
 
 -- what a map names goes by the low bytes of its entries alone
 abbrev pub NamedByLowBytes : Type 0

@@ -6,8 +6,8 @@ use lib.ListN.{length, getD}
 use lib.Dec.{eqb, ltb}
 use Rattle.lists.specs.Tab.{tab}
 use Rattle.lists.specs.Search.{least}
-use Rattle.classes.specs.Picture.{cellByte, cellPixels}
-use Rattle.classes.specs.Turned.{turnFor, canTurn}
+use Rattle.pack_classes.specs.Picture.{cellByte, cellPixels}
+use Rattle.pack_classes.specs.Turned.{turnFor, canTurn}
 
 -- the place of the first of the cells ds that can be turned into cell c, or how many they are
 unfoldable pub placeIn : List ℕ → List ℕ → ℕ → ℕ

@@ -6,9 +6,9 @@ use mathlib.Core.Bool.{true, false}
 use Prim.Native.Nat.{ℕ, _+_, _*_, _/_, _%_, _≤_, _<_}
 use lib.ListN.{length, getD, take, drop}
 use Rattle.lists.specs.Search.{different}
-use Rattle.tilemap.specs.declared.rule.Layout.{Layout}
+use Rattle.tilemap.specs.declared.rule.TileSetup.{TileSetup}
 use Rattle.tilemap.specs.Index.{turnOf, columnOf, rowOf, halfOf, indexOf, tileIndex}
-use Rattle.classes.specs.Picture.{pixelOf}
+use Rattle.pack_classes.specs.Picture.{pixelOf}
 
 -- the tile number of an entry: the low byte alone, without bit 8, as the ULA is on
 unfoldable pub lowByte : List ℕ → ℕ → ℕ
@@ -22,9 +22,9 @@ unfoldable pub named : List ℕ → ℕ
 named map = different (lowByte map) 1280
 
 -- in 40 columns, two bytes an entry, X offset and $31 both 0, the ULA on; $6C, whatever it is, is not read
-abbrev pub sheetLayout : ℕ → ℕ → ℕ → Layout
-sheetLayout attribute mapBase defBase = record {
-  wide = false;
+abbrev pub sheetSetup : ℕ → ℕ → ℕ → TileSetup
+sheetSetup attribute mapBase defBase = record {
+  columns80 = false;
   single = false;
   attribute = attribute;
   ula = true;
@@ -51,13 +51,13 @@ pub record SetIn (map defs bank : List ℕ) (mapBase defBase : ℕ) : Type 0 whe
   pub defs-there : take 8192 (drop defBase bank) ≡ defs
 
 -- the rules of "Tilemap dots" give index palette offset × 16 + pixel at each of the 81,920 pixels
-abbrev pub DrawsIn : List ℕ → ℕ → List ℕ → Layout → Type 0
+abbrev pub DrawsIn : List ℕ → ℕ → List ℕ → TileSetup → Type 0
 DrawsIn pic offset bank t = (x y : ℕ) → x < 320 → y < 256 → tileIndex t bank x y ≡ offset * 16 + pixelOf pic x y
 
 -- a map and definitions draw the picture, however they are set in a bank
 abbrev pub DrawsAlways : List ℕ → ℕ → List ℕ → List ℕ → Type 0
 DrawsAlways pic offset map defs =
-    (bank : List ℕ) (attribute mapBase defBase : ℕ) → SetIn map defs bank mapBase defBase → DrawsIn pic offset bank (sheetLayout attribute mapBase defBase)
+    (bank : List ℕ) (attribute mapBase defBase : ℕ) → SetIn map defs bank mapBase defBase → DrawsIn pic offset bank (sheetSetup attribute mapBase defBase)
 
 -- a map and definitions draw the picture, set in a bank in some one way
 pub record Draws (pic : List ℕ) (offset : ℕ) (map defs : List ℕ) : Type 0 where
@@ -66,7 +66,7 @@ pub record Draws (pic : List ℕ) (offset : ℕ) (map defs : List ℕ) : Type 0 
   pub mapBase : ℕ
   pub defBase : ℕ
   pub set : SetIn map defs bank mapBase defBase
-  pub draws : DrawsIn pic offset bank (sheetLayout attribute mapBase defBase)
+  pub draws : DrawsIn pic offset bank (sheetSetup attribute mapBase defBase)
 
 -- the index at (x, y) read directly from a map and definitions
 unfoldable pub sheetIndex : List ℕ → List ℕ → ℕ → ℕ → ℕ

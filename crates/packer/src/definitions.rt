@@ -4,7 +4,7 @@ ghost use Prim.Native.Nat.{ℕ, _+_, _*_, _≤_, _<_};
 ghost use lib.ListN.{length, getD};
 ghost use Rattle.lists.specs.Tab.{tab};
 ghost use Rattle.packer.specs.Greedy.{defCells, tileCount, defByte, packedDefs};
-use classes::cell_bytes;
+use pack_classes::cell_bytes;
 
 pub fn copy(source: &[u8], target: &mut [u8])
     requires { ⌜ length (now target) ≡ length (now source) ⌝ }

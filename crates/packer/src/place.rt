@@ -6,13 +6,13 @@ ghost use mathlib.Core.List.{[]};
 ghost use Prim.Native.Nat.{_+_, _*_, _≤_, _<_};
 ghost use lib.ListN.{length, getD, set};
 ghost use Rattle.lists.specs.Search.{least};
-ghost use Rattle.classes.specs.Turned.{canMake};
-ghost use Rattle.classes.specs.Mark.{markOf};
+ghost use Rattle.pack_classes.specs.Turned.{canMake};
+ghost use Rattle.pack_classes.specs.Mark.{markOf};
 ghost use Rattle.packer.specs.Bounds.{Listed, Slotted, Named, Found, Placed, Progress, Stepped};
-use classes::flip;
-use classes::mark;
-use classes::turn_marked;
-use classes::unpack;
+use pack_classes::flip;
+use pack_classes::mark;
+use pack_classes::turn_marked;
+use pack_classes::unpack;
 
 // Where a cell's definition is, the turn that draws the cell, and the cell's mark.
 pub struct Place {

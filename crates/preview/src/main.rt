@@ -14,9 +14,9 @@ const RECORD: usize = 2151;
 const BANK: usize = 16385;
 
 fn draw_sample() {
-    let ula = sample_screen::sample_ula();
-    let tiles = sample_screen::sample_tiles();
-    output::show(sample_screen::sample_state(), &ula, &tiles);
+    let ula = example_screen::sample_ula();
+    let tiles = example_screen::sample_tiles();
+    output::show(example_screen::sample_state(), &ula, &tiles);
 }
 
 fn draw_record(record: &[u8], ula: &[u8], tile: &[u8]) {

@@ -10,9 +10,9 @@ use Rattle.state.specs.declared.State.{State}
 use Rattle.state.specs.declared.Answer.{Answer}
 use Rattle.state.specs.Answer.{done}
 use Rattle.state.specs.Lawful.{lawfulUla, lawfulPalette, lawfulTiles, lawfulTurns, lawfulPorts, allColours, lawfulState}
-use Rattle.layout.specs.Layout.{layout}
-use Rattle.layout.specs.Record.{recordLength, version, counted, versioned, sound, stateIn, notRecord, readRecord}
-use Rattle.layout.proofs.Claims.{counted-number, soundIsLawful}
+use Rattle.record_layout.specs.Layout.{layout}
+use Rattle.record_layout.specs.Record.{recordLength, version, counted, versioned, sound, stateIn, notRecord, readRecord}
+use Rattle.record_layout.proofs.Claims.{counted-number, soundIsLawful}
 
 abbrev stages : List ℕ → Bool
 stages b = counted layout b && (versioned version b && sound layout b)

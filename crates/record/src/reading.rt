@@ -4,10 +4,10 @@ ghost use mathlib.Core.Bool.{_&&_};
 ghost use Prim.Native.Nat.{_<_};
 ghost use lib.ListN.{length};
 ghost use Rattle.state.specs.Lawful.{allColours};
-ghost use Rattle.layout.specs.Layout.{layout};
-ghost use Rattle.layout.specs.Record.{recordLength, version, counted, versioned, sound, stateIn, notRecord, readRecord};
-use lists::wide;
-use parts::state_at;
+ghost use Rattle.record_layout.specs.Layout.{layout};
+ghost use Rattle.record_layout.specs.Record.{recordLength, version, counted, versioned, sound, stateIn, notRecord, readRecord};
+use lists::usize_of;
+use record_parts::state_at;
 use reply::Reply;
 use state::Answer;
 use state::lawful_registers;
@@ -19,7 +19,7 @@ fn has_count(b: &[u8]) -> bool
     if b.len() < 2 {
         return false;
     }
-    let following = wide(b[0]) * 256 + wide(b[1]);
+    let following = usize_of(b[0]) * 256 + usize_of(b[1]);
     (b.len() == 2 + following) & (following == 2148)
 }
 
@@ -35,10 +35,10 @@ fn has_palettes(b: &[u8]) -> bool
     ensures { λ r. ⌜ r ≡ (allColours (stateIn (now (b .entry)) .ulafirst) && allColours (stateIn (now (b .entry)) .ulasecond)
         && allColours (stateIn (now (b .entry)) .tilefirst) && allColours (stateIn (now (b .entry)) .tilesecond)) ⌝ }
 {
-    let first = parts::is_palette(b, 102);
-    let second = parts::is_palette(b, 614);
-    let third = parts::is_palette(b, 1126);
-    let fourth = parts::is_palette(b, 1638);
+    let first = record_parts::is_palette(b, 102);
+    let second = record_parts::is_palette(b, 614);
+    let third = record_parts::is_palette(b, 1126);
+    let fourth = record_parts::is_palette(b, 1638);
     first & second & third & fourth
 }
 
@@ -50,11 +50,11 @@ fn has_bounds(b: &[u8]) -> bool
 {
     let held = b[31] <= 1;
     let plus = b[36] <= 1;
-    let u = parts::ula_at(b);
-    let p = parts::palette_at(b);
-    let t = parts::tiles_at(b);
-    let turns = parts::turns_at(b);
-    let ports = parts::ports_at(b);
+    let u = record_parts::ula_at(b);
+    let p = record_parts::palette_at(b);
+    let t = record_parts::tiles_at(b);
+    let turns = record_parts::turns_at(b);
+    let ports = record_parts::ports_at(b);
     let registers = lawful_registers(u, p, t, turns, ports);
     let palettes = has_palettes(b);
     held & plus & (registers & palettes)

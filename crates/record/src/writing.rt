@@ -1,8 +1,8 @@
 // Record writing.
 ghost use mathlib.Core.Path.{_≡_};
-ghost use Rattle.layout.specs.Record.{writeReply, writtenIn};
-use parts::put_registers;
-use parts::put_tables;
+ghost use Rattle.record_layout.specs.Record.{writeReply, writtenIn};
+use record_parts::put_registers;
+use record_parts::put_tables;
 use reply::Reply;
 use state::State;
 use state::lawful;

@@ -10,9 +10,9 @@ use Rattle.state.specs.declared.State.{State}
 use Rattle.state.specs.declared.Answer.{Answer}
 use Rattle.state.specs.Answer.{refused}
 use Rattle.state.specs.Lawful.{lawfulState}
-use Rattle.answers.specs.Answers.{within, unread, writeLawful}
-use Rattle.answers.specs.Rows.{writeBy, readBy}
-use Rattle.ports.specs.Ports.{portWrites, portReads}
+use Rattle.register_answers.specs.Answers.{within, unread, writeLawful}
+use Rattle.register_answers.specs.Rows.{writeBy, readBy}
+use Rattle.register_ports.specs.Ports.{portWrites, portReads}
 use Rattle.registers.specs.Registers.{registerWrites, registerReads, writeRegister, writePort, readRegister, readPort}
 use Rattle.register_laws.proofs.Parts.{either}
 

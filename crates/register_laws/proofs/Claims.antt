@@ -15,13 +15,14 @@ use Rattle.state.specs.declared.Palette.{Palette}
 use Rattle.state.specs.declared.Answer.{Answer}
 use Rattle.state.specs.Answer.{done, refused}
 use Rattle.state.specs.Bits.{timexOn}
-use Rattle.state.specs.Lawful.{isMask, isChoice, lawfulState}
+use Rattle.state.specs.Bounds.{isMask, isChoice}
+use Rattle.state.specs.Lawful.{lawfulState}
 use Rattle.state.specs.With.{withPalette, withTurns}
-use Rattle.answers.specs.Answers.{within, given, writeLawful}
-use Rattle.answers.specs.Rows.{WriteRow, writeBy, readBy}
-use Rattle.clips.specs.Clips.{ulaClipWritten, tileClipWritten, restarted}
-use Rattle.palettes.specs.Palettes.{paletteAt, written, colourAt, indexWritten, eightWritten, controlWritten}
-use Rattle.ports.specs.Ports.{modeGroup, plusWritten, plusRead, portWrites, portReads}
+use Rattle.register_answers.specs.Answers.{within, given, writeLawful}
+use Rattle.register_answers.specs.Rows.{WriteRow, writeBy, readBy}
+use Rattle.register_clips.specs.Clips.{ulaClipWritten, tileClipWritten, restarted}
+use Rattle.register_palettes.specs.Palettes.{paletteAt, written, colourAt, indexWritten, eightWritten, controlWritten}
+use Rattle.register_ports.specs.Ports.{modeGroup, plusWritten, plusRead, portWrites, portReads}
 use Rattle.registers.specs.Registers.{registerWrites, registerReads, writeRegister, writePort, readRegister, readPort}
 use Rattle.register_laws.specs.Bounds.{Typed}
 use Rattle.register_laws.specs.Claims.{Each, none, _▷_, LawfulStays, RefusedSame, ReadsBack, PortsReadBack, NineTwice, NineOnce, HalfDropped, HalfKept, fourWrites, FourClipWrites, TurnsRestarted, ClipReads, TurnsReads, ColourReads, ModeReads, WriteOnly}

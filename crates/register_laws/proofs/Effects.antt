@@ -10,15 +10,16 @@ use Rattle.state.specs.declared.State.{State}
 use Rattle.state.specs.declared.Tiles.{Tiles}
 use Rattle.state.specs.declared.Palette.{Palette}
 use Rattle.state.specs.declared.Ports.{Ports}
-use Rattle.state.specs.Lawful.{isMask, isChoice, lawfulTiles, lawfulPalette, lawfulTurns, lawfulPorts}
+use Rattle.state.specs.Bounds.{isMask, isChoice}
+use Rattle.state.specs.Lawful.{lawfulTiles, lawfulPalette, lawfulTurns, lawfulPorts}
 use Rattle.state.specs.Answer.{done}
 use Rattle.state.specs.With.{withUla, withTiles, withPalette, withTurns, withPorts, withUlaClip, withTileClip, withPlus}
 use Rattle.colour.specs.Bytes.{widened}
-use Rattle.plain.specs.Fields.{ulaWithTransparent, ulaWithLayers, ulaWithPeripheral, ulaWithFallback, ulaWithControl, ulaWithX, ulaWithY, tilesWithTransparent, tilesWithControl, tilesWithAttribute, tilesWithXHigh, tilesWithXLow, tilesWithY, tilesWithMap, tilesWithDefinitions}
-use Rattle.plain.specs.Plain.{peripheralWritten, transparentWritten, layersWritten, tileXHighWritten, tileXLowWritten, tileYWritten, ulaXWritten, ulaYWritten, fallbackWritten, tileTransparentWritten, ulaControlWritten, tileControlWritten, tileAttributeWritten, mapWritten, definitionsWritten}
-use Rattle.clips.specs.Clips.{place, nextTurn, ulaClipWritten, tileClipWritten, restarted, turnsWritten}
-use Rattle.palettes.specs.Palettes.{paletteAt, written, colourStored, colourPut, indexWritten, eightWritten, maskWritten, controlWritten, nineFirst, nineSecond, nineWritten}
-use Rattle.ports.specs.Ports.{borderWritten, timexWritten, selectWritten, modeGroup, modeWritten, plusWritten, portWrites}
+use Rattle.register_stored.specs.Fields.{ulaWithTransparent, ulaWithLayers, ulaWithPeripheral, ulaWithFallback, ulaWithControl, ulaWithX, ulaWithY, tilesWithTransparent, tilesWithControl, tilesWithAttribute, tilesWithXHigh, tilesWithXLow, tilesWithY, tilesWithMap, tilesWithDefinitions}
+use Rattle.register_stored.specs.Plain.{peripheralWritten, transparentWritten, layersWritten, tileXHighWritten, tileXLowWritten, tileYWritten, ulaXWritten, ulaYWritten, fallbackWritten, tileTransparentWritten, ulaControlWritten, tileControlWritten, tileAttributeWritten, mapWritten, definitionsWritten}
+use Rattle.register_clips.specs.Clips.{place, nextTurn, ulaClipWritten, tileClipWritten, restarted, turnsWritten}
+use Rattle.register_palettes.specs.Palettes.{paletteAt, written, colourStored, colourPut, indexWritten, eightWritten, maskWritten, controlWritten, nineFirst, nineSecond, nineWritten}
+use Rattle.register_ports.specs.Ports.{borderWritten, timexWritten, selectWritten, modeGroup, modeWritten, plusWritten, portWrites}
 use Rattle.registers.specs.Registers.{registerWrites}
 use Rattle.register_laws.specs.Claims.{Each, none, _▷_}
 use Rattle.register_laws.proofs.Parts.{Parts, and-l, and-r, both, either, with-ula, with-tiles, with-palette, with-turns, with-ports, with-ulaclip, with-tileclip, with-plus, set-colours, palette-at, with-palette-at}

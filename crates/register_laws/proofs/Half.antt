@@ -9,12 +9,13 @@ use Rattle.state.specs.declared.State.{State}
 use Rattle.state.specs.declared.Palette.{Palette}
 use Rattle.state.specs.declared.Answer.{Answer}
 use Rattle.state.specs.Answer.{done, refused}
-use Rattle.state.specs.Lawful.{isMask, lawfulState}
+use Rattle.state.specs.Bounds.{isMask}
+use Rattle.state.specs.Lawful.{lawfulState}
 use Rattle.state.specs.With.{withPalette}
-use Rattle.answers.specs.Answers.{within, writeLawful}
-use Rattle.answers.specs.Rows.{writeBy}
-use Rattle.palettes.specs.Palettes.{colourStored}
-use Rattle.ports.specs.Ports.{modeGroup, portWrites}
+use Rattle.register_answers.specs.Answers.{within, writeLawful}
+use Rattle.register_answers.specs.Rows.{writeBy}
+use Rattle.register_palettes.specs.Palettes.{colourStored}
+use Rattle.register_ports.specs.Ports.{modeGroup, portWrites}
 use Rattle.registers.specs.Registers.{registerWrites}
 use Rattle.register_laws.specs.Claims.{Each, none, _▷_, SameHalf}
 use Rattle.register_laws.proofs.Parts.{either}

@@ -14,7 +14,7 @@ use Rattle.state.specs.declared.Turns.{Turns}
 use Rattle.state.specs.declared.Ports.{Ports}
 use Rattle.state.specs.Lawful.{lawfulUla, lawfulPalette, lawfulTiles, lawfulTurns, lawfulPorts, allColours, lawfulState}
 use Rattle.state.specs.With.{withUla, withTiles, withPalette, withTurns, withPorts, withUlaClip, withTileClip, withPlus}
-use Rattle.palettes.specs.Palettes.{paletteAt, withPaletteAt}
+use Rattle.register_palettes.specs.Palettes.{paletteAt, withPaletteAt}
 use Rattle.register_laws.specs.Bounds.{Typed}
 
 pub and-l : (a b : Bool) → (a && b) ≡ true → a ≡ true

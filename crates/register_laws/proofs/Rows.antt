@@ -9,8 +9,8 @@ use Rattle.reply.specs.declared.Reply.the-variants.{Done, NoRegister}
 use Rattle.state.specs.declared.State.{State}
 use Rattle.state.specs.declared.Answer.{Answer}
 use Rattle.state.specs.Answer.{done, refused}
-use Rattle.answers.specs.Answers.{within}
-use Rattle.answers.specs.Rows.{WriteRow, writeBy}
+use Rattle.register_answers.specs.Answers.{within}
+use Rattle.register_answers.specs.Rows.{WriteRow, writeBy}
 use Rattle.register_laws.specs.Claims.{Each, none, _▷_}
 use Rattle.register_laws.proofs.Parts.{Parts, either}
 

@@ -8,7 +8,7 @@ use lib.ListN.{length, set}
 use lib.Dec.{eqb}
 use borrow.Author.Tests.{eq-eqb, ne-eqb}
 use Rattle.lists.proofs.Cond.{if-true, if-false}
-use Rattle.clips.specs.Clips.{place, nextTurn, restarted}
+use Rattle.register_clips.specs.Clips.{place, nextTurn, restarted}
 use Rattle.register_laws.specs.Claims.{At}
 
 abbrev pub fourSet : List ℕ → ℕ → ℕ → ℕ → ℕ → ℕ → List ℕ

@@ -11,8 +11,8 @@ use Rattle.state.specs.Answer.{done}
 use Rattle.state.specs.Bits.{timexOn}
 use Rattle.state.specs.Lawful.{lawfulState}
 use Rattle.state.specs.With.{withPalette}
-use Rattle.answers.specs.Answers.{given, unread}
-use Rattle.palettes.specs.Palettes.{paletteAt, withPaletteAt, written, nextIndex}
+use Rattle.register_answers.specs.Answers.{given, unread}
+use Rattle.register_palettes.specs.Palettes.{paletteAt, withPaletteAt, written, nextIndex}
 use Rattle.registers.specs.Registers.{writeRegister, writePort, readRegister, readPort}
 use Rattle.register_laws.specs.Bounds.{Typed}
 

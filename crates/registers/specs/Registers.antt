@@ -1,16 +1,16 @@
 -- The state and its registers: writing and reading by register number and by port. What each row does stands in the
--- definitions of `plain`, `clips`, `palettes` and `ports`.
+-- definitions of `register_stored`, `register_clips`, `register_palettes` and `register_ports`.
 use Prim.Native.Nat.{ℕ}
 use mathlib.Core.List.{List, [], _∷_}
 use Rattle.state.specs.declared.State.{State}
 use Rattle.state.specs.declared.Answer.{Answer}
-use Rattle.answers.specs.declared.Reading.{Reading}
-use Rattle.answers.specs.Answers.{given, writeLawful, readLawful}
-use Rattle.answers.specs.Rows.{WriteRow, writes, writeBy, ReadRow, reads, readBy}
-use Rattle.plain.specs.Plain.{peripheralWritten, transparentWritten, layersWritten, tileXHighWritten, tileXLowWritten, tileYWritten, ulaXWritten, ulaYWritten, fallbackWritten, tileTransparentWritten, ulaControlWritten, tileControlWritten, tileAttributeWritten, mapWritten, definitionsWritten}
-use Rattle.clips.specs.Clips.{ulaClipWritten, tileClipWritten, turnsWritten, clipNext, turnsRead}
-use Rattle.palettes.specs.Palettes.{indexWritten, eightWritten, maskWritten, controlWritten, nineWritten, eightRead, nineRead}
-use Rattle.ports.specs.Ports.{portWrites, portReads}
+use Rattle.register_answers.specs.declared.Reading.{Reading}
+use Rattle.register_answers.specs.Answers.{given, writeLawful, readLawful}
+use Rattle.register_answers.specs.Rows.{WriteRow, writes, writeBy, ReadRow, reads, readBy}
+use Rattle.register_stored.specs.Plain.{peripheralWritten, transparentWritten, layersWritten, tileXHighWritten, tileXLowWritten, tileYWritten, ulaXWritten, ulaYWritten, fallbackWritten, tileTransparentWritten, ulaControlWritten, tileControlWritten, tileAttributeWritten, mapWritten, definitionsWritten}
+use Rattle.register_clips.specs.Clips.{ulaClipWritten, tileClipWritten, turnsWritten, clipNext, turnsRead}
+use Rattle.register_palettes.specs.Palettes.{indexWritten, eightWritten, maskWritten, controlWritten, nineWritten, eightRead, nineRead}
+use Rattle.register_ports.specs.Ports.{portWrites, portReads}
 
 -- the registers, and what a write does to each
 abbrev pub registerWrites : List WriteRow

@@ -1,7 +1,7 @@
 // Writes and reads by port.
 ghost use mathlib.Core.Path.{_≡_};
 ghost use Rattle.registers.specs.Registers.{writePort, readPort};
-use answers::Reading;
+use register_answers::Reading;
 use reply::Reply;
 use state::Answer;
 use state::State;
@@ -12,7 +12,7 @@ pub fn write_port(s: State, port: u16, value: u8) -> Answer
     ensures { λ r. ⌜ r ≡ writePort s port value ⌝ }
 {
     if lawful(s) {
-        ports::write_at(s, port, value)
+        register_ports::write_at(s, port, value)
     } else {
         Answer {
             reply: Reply::NotLawful,
@@ -26,7 +26,7 @@ pub fn read_port(s: State, port: u16) -> Reading
     ensures { λ r. ⌜ r ≡ readPort s port ⌝ }
 {
     if lawful(s) {
-        ports::read_at(s, port)
+        register_ports::read_at(s, port)
     } else {
         Reading {
             reply: Reply::NotLawful,

@@ -3,7 +3,7 @@
 use cases::print_lines;
 
 fn main() {
-    let ula = sample_screen::sample_ula();
-    let tile = sample_screen::sample_tiles();
-    print_lines(&ula, &tile, sample_screen::sample_state());
+    let ula = example_screen::sample_ula();
+    let tile = example_screen::sample_tiles();
+    print_lines(&ula, &tile, example_screen::sample_state());
 }

@@ -1,8 +1,8 @@
 // Runs the script `script`, from the reset state on, and prints what each entry is answered. An entry is four bytes: its
 // kind, a number, high first, and a value.
-use answers::Reading;
 use files::Read;
-use lists::wide16;
+use lists::u16_of;
+use register_answers::Reading;
 use reply::Reply;
 use report::word;
 use state::Answer;
@@ -82,7 +82,7 @@ fn reset() -> State {
 
 // One entry, and the state after it.
 fn step(s: State, kind: u8, high: u8, low: u8, value: u8) -> State {
-    let port = wide16(high) * 256 + wide16(low);
+    let port = u16_of(high) * 256 + u16_of(low);
     match kind {
         0 => write_register(s, low, value),
         1 => write_port(s, port, value),

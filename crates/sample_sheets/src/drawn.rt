@@ -2,9 +2,9 @@
 ghost use mathlib.Core.Path.{_≡_};
 ghost use Prim.Native.Nat.{_+_, _≤_, _<_};
 ghost use lib.ListN.{length};
-ghost use Rattle.tilemap.specs.Bounds.{Laid};
-use lists::wide;
-use tilemap::Layout;
+ghost use Rattle.tilemap.specs.Bounds.{SetupBounds};
+use lists::usize_of;
+use tilemap::TileSetup;
 
 fn set(bank: &mut [u8], at: usize, part: &[u8])
     requires { ⌜ at + length (now part) ≤ length (now bank) ⌝ }
@@ -15,16 +15,16 @@ fn set(bank: &mut [u8], at: usize, part: &[u8])
 }
 
 // The index at pixel i of 81,920 is that of the picture, with palette offset 0.
-fn is_right(picture: &[u8], bank: &[u8], t: Layout, i: usize) -> bool
-    requires { ⌜ (length (now picture) ≡ 40960) × (length (now bank) ≡ 16384) × (Laid t) × (i < 81920) ⌝ }
+fn is_right(picture: &[u8], bank: &[u8], t: TileSetup, i: usize) -> bool
+    requires { ⌜ (length (now picture) ≡ 40960) × (length (now bank) ≡ 16384) × (SetupBounds t) × (i < 81920) ⌝ }
 {
     let x = i % 320;
     let y = i / 320;
-    tilemap::index_at(t, bank, x, y) == tilemap::half(x, wide(picture[y * 160 + x / 2]))
+    tilemap::index_at(t, bank, x, y) == tilemap::half(x, usize_of(picture[y * 160 + x / 2]))
 }
 
-fn count_wrong(picture: &[u8], bank: &[u8], t: Layout) -> u64
-    requires { ⌜ (length (now picture) ≡ 40960) × (length (now bank) ≡ 16384) × (Laid t) ⌝ }
+fn count_wrong(picture: &[u8], bank: &[u8], t: TileSetup) -> u64
+    requires { ⌜ (length (now picture) ≡ 40960) × (length (now bank) ≡ 16384) × (SetupBounds t) ⌝ }
 {
     let mut wrong = 0;
     for i in 0..81920 {
@@ -42,8 +42,8 @@ pub fn differ(picture: &[u8], map: &[u8], definitions: &[u8]) -> u64
     let mut bank = [0u8; 16384];
     set(&mut bank, 0, definitions);
     set(&mut bank, 13824, map);
-    let t = Layout {
-        wide: false,
+    let t = TileSetup {
+        columns80: false,
         single: false,
         attribute: 0,
         ula: true,

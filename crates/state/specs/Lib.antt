@@ -1,5 +1,7 @@
 pub mod Bits
+pub mod Bounds
 pub mod Lawful
+pub mod Typed
 pub mod Answer
 pub mod With
 pub mod Reset

@@ -1,7 +1,8 @@
 // What is lawful. A group's test is one chain of `&` in the order of its definition, so that it is equal to it by computation.
 ghost use mathlib.Core.Path.{_≡_};
 ghost use mathlib.Core.Bool.{_&&_};
-ghost use Rattle.state.specs.Lawful.{isMask, isChoice, lawfulUla, lawfulPalette, lawfulTiles, lawfulTurns, lawfulPorts, allColours, lawfulState};
+ghost use Rattle.state.specs.Bounds.{isMask, isChoice};
+ghost use Rattle.state.specs.Lawful.{lawfulUla, lawfulPalette, lawfulTiles, lawfulTurns, lawfulPorts, allColours, lawfulState};
 use crate::Palette;
 use crate::Ports;
 use crate::State;

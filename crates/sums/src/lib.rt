@@ -18,7 +18,7 @@ fn add(s: Pair, x: u32) -> Pair
     Pair { a, b }
 }
 
-fn wide32(x: u16) -> u32
+fn u32_of(x: u16) -> u32
     ensures { λ r. ⌜ (r ≡ x) × (r < 65536) ⌝ }
 {
     x as u32
@@ -28,7 +28,7 @@ fn add_dot(s: Pair, dot: u16) -> Pair
     requires { ⌜ Small s ⌝ }
     ensures { λ r. ⌜ (r ≡ dotAdded s dot) × (Small r) ⌝ }
 {
-    let d = wide32(dot);
+    let d = u32_of(dot);
     add(add(s, d / 256), d % 256)
 }
 

@@ -5,7 +5,7 @@ use lib.Dec.{leb, eqb}
 
 -- a ULA dot is transparent when colour div 2 equals $14
 unfoldable pub shown : ℕ → ℕ → ℕ
-shown clear c = cond (eqb (c / 2) clear) 512 c
+shown transparent c = cond (eqb (c / 2) transparent) 512 c
 
 -- between two coordinates of a clip, both ends inside
 abbrev pub inside : ℕ → ℕ → ℕ → Bool
@@ -16,5 +16,5 @@ unfoldable pub clipped : ℕ → ℕ → ℕ → ℕ → ℕ
 clipped x left right dot = cond (inside x left right) dot 512
 
 -- the upper dot unless transparent, then the lower
-unfoldable pub above : ℕ → ℕ → ℕ
-above upper lower = cond (eqb upper 512) lower upper
+unfoldable pub topDot : ℕ → ℕ → ℕ
+topDot upper lower = cond (eqb upper 512) lower upper

@@ -3,8 +3,8 @@ mod dots;
 mod lines;
 
 pub use dots::is_inside;
-pub use dots::over;
 pub use dots::show;
+pub use dots::top_dot;
 pub use lines::LineNumber;
 pub use lines::display_line;
 pub use lines::in_display;

@@ -11,13 +11,13 @@ use lib.ListN.{take, drop, getD, List·getD-append}
 use lib.Seq.{take-at, drop-at, drop-drop}
 use Rattle.lists.specs.Tab.{tab}
 use Rattle.lists.proofs.Tab.{tab-none, tab-ext, tab-join, length-tab, getD-tab}
-use Rattle.tilemap.specs.declared.rule.Layout.{Layout}
+use Rattle.tilemap.specs.declared.rule.TileSetup.{TileSetup}
 use Rattle.tilemap.specs.declared.rule.Entry.{Entry}
 use Rattle.tilemap.specs.Index.{columnsOf, widthOf, txOf, tyOf, cellOf, entryAt, tileNumber, turnOf, mirrored, bOf, columnOf, rowOf, pixelAt, entryPixel}
 use Rattle.tilemap.specs.Shades.{shadeOf, shadeAt, rowLength, tileRow}
 
 -- a rotated entry shows a column of its definition, any other a row
-module _ (t : Layout) (shades bank : List ℕ) (e : Entry) (y n b : ℕ) (en : n ≡ tileNumber t e) (eb : b ≡ bOf (turnOf (e .high)) y) where
+module _ (t : TileSetup) (shades bank : List ℕ) (e : Entry) (y n b : ℕ) (en : n ≡ tileNumber t e) (eb : b ≡ bOf (turnOf (e .high)) y) where
   abbrev flip : Bool
   flip = not (eqb (turnOf (e .high) / 4 % 2) (turnOf (e .high) % 2))
 
@@ -42,13 +42,13 @@ within : (w : Bool) (x j k : ℕ) → j % 8 ≡ 0 → k < 8 → (x / 8 * 8 + (j 
 within true x j k e h = omega arith
 within false x j k e h = omega arith
 
-pub cell-shades : (t : Layout) (shades bank : List ℕ) (j ty tx cell : ℕ) (e : Entry) → j % 8 ≡ 0 → tx ≡ (t .x / 8 * 8 + j) % widthOf (t .wide)
-    → cell ≡ cellOf (t .wide) tx ty → e ≡ entryAt t bank cell
+pub cell-shades : (t : TileSetup) (shades bank : List ℕ) (j ty tx cell : ℕ) (e : Entry) → j % 8 ≡ 0 → tx ≡ (t .x / 8 * 8 + j) % widthOf (t .columns80)
+    → cell ≡ cellOf (t .columns80) tx ty → e ≡ entryAt t bank cell
     → tab (λ (k : ℕ). shadeOf shades (e .high) (entryPixel t bank e k (ty % 8))) 8
-    ≡ tab (λ (k : ℕ). shadeAt t shades bank ((t .x / 8 * 8 + (j + k)) % widthOf (t .wide)) ty) 8
+    ≡ tab (λ (k : ℕ). shadeAt t shades bank ((t .x / 8 * 8 + (j + k)) % widthOf (t .columns80)) ty) 8
 unfolding shadeAt
 cell-shades t shades bank j ty tx cell e z p q r =
-    tab-ext _ _ 8 (λ k g. rw (same-column (t .wide) (t .x) j k z g, within (t .wide) (t .x) j k z g, ← p, ← q, ← r))
+    tab-ext _ _ 8 (λ k g. rw (same-column (t .columns80) (t .x) j k z g, within (t .columns80) (t .x) j k z g, ← p, ← q, ← r))
 
 -- the row before any cell is written
 pub row-none : (f : ℕ → ℕ) (out : List ℕ) → out ≡ tab f 0 ++ drop 0 out
@@ -61,8 +61,8 @@ row-part f out old p j n e q s =
     rw (e, take-at (tab f j) (drop j old) j (length-tab f j), drop-at (tab f j) (drop j old) j (length-tab f j), q, s, drop-drop 8 j old, tab-join f j 8, append-assoc)
 
 -- all cells are written
-pub row-done : (t : Layout) (shades bank : List ℕ) (y ty j : ℕ) (out old : List ℕ) → ty ≡ tyOf t y → j ≡ rowLength t
-    → out ≡ tab (λ (k : ℕ). shadeAt t shades bank ((t .x / 8 * 8 + k) % widthOf (t .wide)) ty) j ++ drop j old
+pub row-done : (t : TileSetup) (shades bank : List ℕ) (y ty j : ℕ) (out old : List ℕ) → ty ≡ tyOf t y → j ≡ rowLength t
+    → out ≡ tab (λ (k : ℕ). shadeAt t shades bank ((t .x / 8 * 8 + k) % widthOf (t .columns80)) ty) j ++ drop j old
     → out ≡ tileRow t shades bank y ++ drop (rowLength t) old
 unfolding tileRow
 row-done t shades bank y ty j out old e q p = rw (← e, ← q) p
@@ -72,14 +72,14 @@ row-within true s x a h = omega arith
 row-within false s x a h = omega arith
 
 -- what the layer above reads
-pub row-at : (t : Layout) (shades bank : List ℕ) (y : ℕ) (rest : List ℕ) (x : ℕ) → x < widthOf (t .wide)
+pub row-at : (t : TileSetup) (shades bank : List ℕ) (y : ℕ) (rest : List ℕ) (x : ℕ) → x < widthOf (t .columns80)
     → getD (tileRow t shades bank y ++ rest) (t .x % 8 + x) 0 ≡ shadeAt t shades bank (txOf t x) (tyOf t y)
 unfolding tileRow
 row-at t shades bank y rest x h =
-    let f : ℕ → ℕ = λ j. shadeAt t shades bank ((t .x / 8 * 8 + j) % widthOf (t .wide)) (tyOf t y) in
+    let f : ℕ → ℕ = λ j. shadeAt t shades bank ((t .x / 8 * 8 + j) % widthOf (t .columns80)) (tyOf t y) in
     let s : t .x % 8 < 8 = omega arith in
-    let l : t .x % 8 + x < rowLength t = row-within (t .wide) (t .x % 8) x s h in
+    let l : t .x % 8 + x < rowLength t = row-within (t .columns80) (t .x % 8) x s h in
     let e : t .x / 8 * 8 + (t .x % 8 + x) ≡ x + t .x = omega arith in
     List·getD-append (tab f (rowLength t)) rest 0 (t .x % 8 + x) (rw length-tab l)
     ∙ getD-tab f (rowLength t) (t .x % 8 + x) l
-    ∙ ap (λ (v : ℕ). shadeAt t shades bank (v % widthOf (t .wide)) (tyOf t y)) e
+    ∙ ap (λ (v : ℕ). shadeAt t shades bank (v % widthOf (t .columns80)) (tyOf t y)) e

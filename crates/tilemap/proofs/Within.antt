@@ -5,10 +5,10 @@ use mathlib.Core.Bool.{Bool, true, false, cond}
 use native.Mathlib.Omega.{arith}
 use lib.ListN.{getD}
 use lib.Dec.{eqb}
-use Rattle.tilemap.specs.declared.rule.Layout.{Layout}
+use Rattle.tilemap.specs.declared.rule.TileSetup.{TileSetup}
 use Rattle.tilemap.specs.declared.rule.Entry.{Entry}
 use Rattle.tilemap.specs.Index.{fetched, entryAddress, highOf, entryAt, halfOf, pixelAt, entryPixel}
-use Rattle.tilemap.specs.Bounds.{Laid}
+use Rattle.tilemap.specs.Bounds.{SetupBounds}
 
 -- a choice of two that are below m
 below : (b : Bool) (x y m : ℕ) → x < m → y < m → cond b x y < m
@@ -19,10 +19,10 @@ pub half-below : (x byte : ℕ) → halfOf x byte < 16
 unfolding halfOf
 half-below x byte = below (eqb (x % 2) 0) (byte / 16 % 16) (byte % 16) 16 (omega arith) (omega arith)
 
-pub pixel-below : (t : Layout) (bank : List ℕ) (e : Entry) (x y : ℕ) → entryPixel t bank e x y < 16
+pub pixel-below : (t : TileSetup) (bank : List ℕ) (e : Entry) (x y : ℕ) → entryPixel t bank e x y < 16
 unfolding entryPixel pixelAt
 pixel-below t bank e x y = half-below _ _
 
-pub high-below : (t : Layout) (bank : List ℕ) (cell : ℕ) → Laid t → ((i : ℕ) → getD bank i 0 < 256) → entryAt t bank cell .high < 256
+pub high-below : (t : TileSetup) (bank : List ℕ) (cell : ℕ) → SetupBounds t → ((i : ℕ) → getD bank i 0 < 256) → entryAt t bank cell .high < 256
 unfolding entryAt highOf fetched
 high-below t bank cell l h = below (t .single) (t .attribute) (getD bank ((entryAddress t cell + 1) % 16384) 0) 256 (l .attribute) (h ((entryAddress t cell + 1) % 16384))

@@ -2,11 +2,11 @@
 use Prim.Native.Nat.{ℕ, _≤_, _<_}
 use mathlib.Core.List.{List}
 use lib.ListN.{getD}
-use Rattle.tilemap.specs.declared.rule.Layout.{Layout}
+use Rattle.tilemap.specs.declared.rule.TileSetup.{TileSetup}
 use Rattle.tilemap.specs.declared.rule.Entry.{Entry}
 
 -- a layout that a lawful state gives
-pub record Laid (t : Layout) : Type 0 where
+pub record SetupBounds (t : TileSetup) : Type 0 where
   pub attribute : t .attribute < 256
   pub map : t .map < 16384
   pub definitions : t .definitions < 16384

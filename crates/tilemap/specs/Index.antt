@@ -5,7 +5,7 @@ use mathlib.Core.List.{List}
 use mathlib.Core.Bool.{Bool, true, false, cond, not}
 use lib.ListN.{getD}
 use lib.Dec.{eqb}
-use Rattle.tilemap.specs.declared.rule.Layout.{Layout}
+use Rattle.tilemap.specs.declared.rule.TileSetup.{TileSetup}
 use Rattle.tilemap.specs.declared.rule.Entry.{Entry}
 
 -- 80 columns or 40
@@ -15,14 +15,14 @@ columnsOf false = 40
 
 -- width W is 320 or 640
 abbrev pub widthOf : Bool → ℕ
-widthOf wide = columnsOf wide * 8
+widthOf columns80 = columnsOf columns80 * 8
 
 -- tx = (x + X offset) mod W
-abbrev pub txOf : Layout → ℕ → ℕ
-txOf t x = (x + t .x) % widthOf (t .wide)
+abbrev pub txOf : TileSetup → ℕ → ℕ
+txOf t x = (x + t .x) % widthOf (t .columns80)
 
 -- ty = (y + $31) mod 256
-abbrev pub tyOf : Layout → ℕ → ℕ
+abbrev pub tyOf : TileSetup → ℕ → ℕ
 tyOf t y = (y + t .y) % 256
 
 -- addresses are taken mod 16,384
@@ -31,22 +31,22 @@ fetched bank at = getD bank (at % 16384) 0
 
 -- the entry is cell (ty div 8) × columns + tx div 8
 abbrev pub cellOf : Bool → ℕ → ℕ → ℕ
-cellOf wide tx ty = ty / 8 * columnsOf wide + tx / 8
+cellOf columns80 tx ty = ty / 8 * columnsOf columns80 + tx / 8
 
 -- two bytes an entry, or one byte
-unfoldable pub entryAddress : Layout → ℕ → ℕ
+unfoldable pub entryAddress : TileSetup → ℕ → ℕ
 entryAddress t cell = cond (t .single) (t .map + cell) (t .map + cell * 2)
 
 -- the high byte of the entry at an address: two bytes low first, or one byte with $6C
-unfoldable pub highOf : Layout → List ℕ → ℕ → ℕ
+unfoldable pub highOf : TileSetup → List ℕ → ℕ → ℕ
 highOf t bank at = cond (t .single) (t .attribute) (fetched bank (at + 1))
 
 -- the entry of a cell
-unfoldable pub entryAt : Layout → List ℕ → ℕ → Entry
+unfoldable pub entryAt : TileSetup → List ℕ → ℕ → Entry
 entryAt t bank cell = let at = entryAddress t cell in record { low = fetched bank at; high = highOf t bank at }
 
 -- the tile number has bit 8 only when the ULA is off
-unfoldable pub tileNumber : Layout → Entry → ℕ
+unfoldable pub tileNumber : TileSetup → Entry → ℕ
 tileNumber t e = cond (t .ula) (e .low) (e .low + e .high % 2 * 256)
 
 -- the turn of an entry is 4 × x mirror + 2 × y mirror + rotate
@@ -82,7 +82,7 @@ unfoldable pub pixelAt : List ℕ → ℕ → ℕ → ℕ → ℕ
 pixelAt bank at column row = halfOf column (fetched bank (at + row * 4 + column / 2))
 
 -- the pixel that an entry shows at (x, y) of its cell
-unfoldable pub entryPixel : Layout → List ℕ → Entry → ℕ → ℕ → ℕ
+unfoldable pub entryPixel : TileSetup → List ℕ → Entry → ℕ → ℕ → ℕ
 entryPixel t bank e x y =
     let turn = turnOf (e .high) in pixelAt bank (t .definitions + tileNumber t e * 32) (columnOf turn x y) (rowOf turn x y)
 
@@ -91,9 +91,9 @@ abbrev pub indexOf : ℕ → ℕ → ℕ
 indexOf high pixel = high / 16 * 16 + pixel
 
 -- the index at (x, y); x counts dots in 80 columns and pixels in 40
-unfoldable pub tileIndex : Layout → List ℕ → ℕ → ℕ → ℕ
+unfoldable pub tileIndex : TileSetup → List ℕ → ℕ → ℕ → ℕ
 tileIndex t bank x y =
     let tx = txOf t x in
     let ty = tyOf t y in
-    let e = entryAt t bank (cellOf (t .wide) tx ty) in
+    let e = entryAt t bank (cellOf (t .columns80) tx ty) in
     indexOf (e .high) (entryPixel t bank e (tx % 8) (ty % 8))

@@ -7,14 +7,14 @@ use Rattle.surface.specs.Dots.{inside}
 use Rattle.surface.specs.declared.lines.LineNumber.{LineNumber}
 use Rattle.state.specs.declared.Tiles.{Tiles}
 use Rattle.state.specs.Bits.{tilemapOn, columns80, oneByteEntries}
-use Rattle.tilemap.specs.declared.rule.Layout.{Layout}
-use Rattle.tilemap.specs.declared.setup.Pairs.{Pairs}
+use Rattle.tilemap.specs.declared.rule.TileSetup.{TileSetup}
+use Rattle.tilemap.specs.declared.setup.PairCount.{PairCount}
 use Rattle.tilemap.specs.declared.setup.Window.{Window}
 
 -- $6B, $6C, $6E, $6F, $2F with $30, and $31; whether the ULA is on
-unfoldable pub layoutOf : Tiles → Bool → Layout
-layoutOf t on = record {
-  wide = columns80 t;
+unfoldable pub setupOf : Tiles → Bool → TileSetup
+setupOf t on = record {
+  columns80 = columns80 t;
   single = oneByteEntries t;
   attribute = t .attribute;
   ula = on;
@@ -25,7 +25,7 @@ layoutOf t on = record {
 }
 
 -- a pair of pixels starts at twice its number
-abbrev pub firstPixel : Pairs → ℕ
+abbrev pub firstPixel : PairCount → ℕ
 firstPixel p = p .0 * 2
 
 -- the clip is X1, X2, Y1, Y2: X counts pairs of pixels, Y counts lines, both ends are inside; $6B bit 7 is tilemap on

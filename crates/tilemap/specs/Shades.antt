@@ -4,7 +4,7 @@ use Prim.Native.Nat.{ℕ, _+_, _*_, _/_, _%_}
 use mathlib.Core.List.{List}
 use lib.ListN.{getD}
 use Rattle.lists.specs.Tab.{tab}
-use Rattle.tilemap.specs.declared.rule.Layout.{Layout}
+use Rattle.tilemap.specs.declared.rule.TileSetup.{TileSetup}
 use Rattle.tilemap.specs.Index.{columnsOf, widthOf, tyOf, cellOf, entryAt, entryPixel}
 
 -- what the table lent has at an offset and a pixel, with a mark
@@ -16,14 +16,14 @@ abbrev pub shadeOf : List ℕ → ℕ → ℕ → ℕ
 shadeOf shades high pixel = shadeFrom shades (high / 16 * 16) (high % 2 * 1024) pixel
 
 -- the shade at (tx, ty) of the map
-unfoldable pub shadeAt : Layout → List ℕ → List ℕ → ℕ → ℕ → ℕ
+unfoldable pub shadeAt : TileSetup → List ℕ → List ℕ → ℕ → ℕ → ℕ
 shadeAt t shades bank tx ty =
-    let e = entryAt t bank (cellOf (t .wide) tx ty) in shadeOf shades (e .high) (entryPixel t bank e (tx % 8) (ty % 8))
+    let e = entryAt t bank (cellOf (t .columns80) tx ty) in shadeOf shades (e .high) (entryPixel t bank e (tx % 8) (ty % 8))
 
 -- how many shades a line's cells have: one cell more than the columns
-abbrev pub rowLength : Layout → ℕ
-rowLength t = (columnsOf (t .wide) + 1) * 8
+abbrev pub rowLength : TileSetup → ℕ
+rowLength t = (columnsOf (t .columns80) + 1) * 8
 
 -- the shades of a line's cells, from the start of the cell that holds x = 0
-unfoldable pub tileRow : Layout → List ℕ → List ℕ → ℕ → List ℕ
-tileRow t shades bank y = tab (λ (j : ℕ). shadeAt t shades bank ((t .x / 8 * 8 + j) % widthOf (t .wide)) (tyOf t y)) (rowLength t)
+unfoldable pub tileRow : TileSetup → List ℕ → List ℕ → ℕ → List ℕ
+tileRow t shades bank y = tab (λ (j : ℕ). shadeAt t shades bank ((t .x / 8 * 8 + j) % widthOf (t .columns80)) (tyOf t y)) (rowLength t)

@@ -6,10 +6,10 @@ ghost use lib.ListN.{length, drop};
 ghost use Rattle.lists.specs.Tab.{tab};
 ghost use Rattle.tilemap.specs.Index.{columnsOf, widthOf, mirrored, pixelAt, entryPixel};
 ghost use Rattle.tilemap.specs.Shades.{shadeFrom, shadeOf, shadeAt, rowLength, tileRow};
-ghost use Rattle.tilemap.specs.Bounds.{Laid, Bytes, Shaded};
+ghost use Rattle.tilemap.specs.Bounds.{SetupBounds, Bytes, Shaded};
 use crate::rule::Entry;
-use crate::rule::Layout;
 use crate::rule::Spot;
+use crate::rule::TileSetup;
 use crate::rule::cell_of;
 use crate::rule::down_map;
 use crate::rule::entry_at;
@@ -71,8 +71,8 @@ fn rotated(
 }
 
 // The eight shades that an entry shows in row y of its cell. Its turn, offset and mark are worked out here, once for all eight.
-fn entry_shades(t: Layout, shades: &[u16; 256], bank: &[u8], e: Entry, y: usize, out: &mut [u16])
-    requires { ⌜ (Laid t) × (Shaded (now shades)) × (Bytes e) × (y < 8) × (length (now bank) ≡ 16384) × (length (now out) ≡ 8) ⌝ }
+fn entry_shades(t: TileSetup, shades: &[u16; 256], bank: &[u8], e: Entry, y: usize, out: &mut [u16])
+    requires { ⌜ (SetupBounds t) × (Shaded (now shades)) × (Bytes e) × (y < 8) × (length (now bank) ≡ 16384) × (length (now out) ≡ 8) ⌝ }
     ensures { λ r. ⌜ now (out .exit) ≡ tab (λ (k : ℕ). shadeOf (now (shades .entry)) (e .high) (entryPixel t (now (bank .entry)) e k y)) 8 ⌝ }
 {
     let at = t.definitions + tile_number(t, e) * 32;
@@ -89,29 +89,29 @@ fn entry_shades(t: Layout, shades: &[u16; 256], bank: &[u8], e: Entry, y: usize,
 }
 
 // The shades of the cell that starts at j of a line's row.
-fn cell_shades(t: Layout, shades: &[u16; 256], bank: &[u8], j: usize, ty: usize, out: &mut [u16])
-    requires { ⌜ (Laid t) × (Shaded (now shades)) × (j < 648) × (j % 8 ≡ 0) × (ty < 256) × (length (now bank) ≡ 16384) × (length (now out) ≡ 8) ⌝ }
-    ensures { λ r. ⌜ now (out .exit) ≡ tab (λ (k : ℕ). shadeAt t (now (shades .entry)) (now (bank .entry)) ((t .x / 8 * 8 + (j + k)) % widthOf (t .wide)) ty) 8 ⌝ }
+fn cell_shades(t: TileSetup, shades: &[u16; 256], bank: &[u8], j: usize, ty: usize, out: &mut [u16])
+    requires { ⌜ (SetupBounds t) × (Shaded (now shades)) × (j < 648) × (j % 8 ≡ 0) × (ty < 256) × (length (now bank) ≡ 16384) × (length (now out) ≡ 8) ⌝ }
+    ensures { λ r. ⌜ now (out .exit) ≡ tab (λ (k : ℕ). shadeAt t (now (shades .entry)) (now (bank .entry)) ((t .x / 8 * 8 + (j + k)) % widthOf (t .columns80)) ty) 8 ⌝ }
 {
-    let tx = wrapped(t.wide, t.x / 8 * 8 + j);
-    let e = entry_at(t, bank, cell_of(t.wide, tx, ty));
+    let tx = wrapped(t.columns80, t.x / 8 * 8 + j);
+    let e = entry_at(t, bank, cell_of(t.columns80, tx, ty));
     entry_shades(t, shades, bank, e, ty % 8, out);
 }
 
-fn row_length(wide: bool) -> usize
-    ensures { λ r. ⌜ (r ≡ (columnsOf wide + 1) * 8) × (r ≤ 648) × (r % 8 ≡ 0) ⌝ }
+fn row_length(columns80: bool) -> usize
+    ensures { λ r. ⌜ (r ≡ (columnsOf columns80 + 1) * 8) × (r ≤ 648) × (r % 8 ≡ 0) ⌝ }
 {
-    if wide { 648 } else { 328 }
+    if columns80 { 648 } else { 328 }
 }
 
 // The shades of a line's cells, one cell more than its columns; what lies after them stays. The shade at x stands at
 // X offset mod 8 + x.
-pub fn tile_row(t: Layout, shades: &[u16; 256], bank: &[u8], l: LineNumber, out: &mut [u16])
-    requires { ⌜ (Laid t) × (Shaded (now shades)) × (l .0 < 256) × (length (now bank) ≡ 16384) × (length (now out) ≡ 648) ⌝ }
+pub fn tile_row(t: TileSetup, shades: &[u16; 256], bank: &[u8], l: LineNumber, out: &mut [u16])
+    requires { ⌜ (SetupBounds t) × (Shaded (now shades)) × (l .0 < 256) × (length (now bank) ≡ 16384) × (length (now out) ≡ 648) ⌝ }
     ensures { λ r. ⌜ now (out .exit) ≡ tileRow t (now (shades .entry)) (now (bank .entry)) (l .0) ++ drop (rowLength t) (now (out .entry)) ⌝ }
 {
     let ty = down_map(t, l.0);
-    let n = row_length(t.wide);
+    let n = row_length(t.columns80);
     let mut j = 0;
     while j < n {
         let e = j + 8;

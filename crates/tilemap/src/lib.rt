@@ -6,15 +6,15 @@ mod setup;
 
 pub use cells::tile_row;
 pub use rule::Entry;
-pub use rule::Layout;
 pub use rule::Spot;
+pub use rule::TileSetup;
 pub use rule::entry_at;
 pub use rule::entry_pixel;
 pub use rule::fetch;
 pub use rule::half;
 pub use rule::index_at;
 pub use rule::mirror;
-pub use setup::Pairs;
+pub use setup::PairCount;
 pub use setup::Window;
-pub use setup::layout_of;
+pub use setup::setup_of;
 pub use setup::window_of;

@@ -3,13 +3,13 @@ ghost use mathlib.Core.Path.{_≡_};
 ghost use Prim.Native.Nat.{_+_, _%_, _<_};
 ghost use lib.ListN.{length};
 ghost use Rattle.tilemap.specs.Index.{widthOf, tyOf, cellOf, fetched, entryAddress, highOf, entryAt, tileNumber, mirrored, columnOf, rowOf, halfOf, pixelAt, entryPixel, tileIndex};
-ghost use Rattle.tilemap.specs.Bounds.{Laid, Bytes};
-use lists::wide;
+ghost use Rattle.tilemap.specs.Bounds.{SetupBounds, Bytes};
+use lists::usize_of;
 
 // How a tilemap lies in its bank and on the surface.
-pub struct Layout {
+pub struct TileSetup {
     // 80 columns, else 40
-    pub wide: bool,
+    pub columns80: bool,
     // One byte an entry, else two.
     pub single: bool,
     // $6C, the high byte of one-byte entries
@@ -41,11 +41,11 @@ pub fn fetch(bank: &[u8], at: usize) -> usize
     requires { ⌜ length (now bank) ≡ 16384 ⌝ }
     ensures { λ r. ⌜ (r ≡ fetched (now (bank .entry)) at) × (r < 256) ⌝ }
 {
-    wide(bank[at % 16384])
+    usize_of(bank[at % 16384])
 }
 
-fn entry_address(t: Layout, cell: usize) -> usize
-    requires { ⌜ (Laid t) × (cell < 2560) ⌝ }
+fn entry_address(t: TileSetup, cell: usize) -> usize
+    requires { ⌜ (SetupBounds t) × (cell < 2560) ⌝ }
     ensures { λ r. ⌜ (r ≡ entryAddress t cell) × (r < 32768) ⌝ }
 {
     if t.single {
@@ -55,8 +55,8 @@ fn entry_address(t: Layout, cell: usize) -> usize
     }
 }
 
-fn high_of(t: Layout, bank: &[u8], at: usize) -> usize
-    requires { ⌜ (Laid t) × (at < 32768) × (length (now bank) ≡ 16384) ⌝ }
+fn high_of(t: TileSetup, bank: &[u8], at: usize) -> usize
+    requires { ⌜ (SetupBounds t) × (at < 32768) × (length (now bank) ≡ 16384) ⌝ }
     ensures { λ r. ⌜ (r ≡ highOf t (now (bank .entry)) at) × (r < 256) ⌝ }
 {
     if t.single {
@@ -67,8 +67,8 @@ fn high_of(t: Layout, bank: &[u8], at: usize) -> usize
 }
 
 // An entry of two bytes, or of one with $6C.
-pub fn entry_at(t: Layout, bank: &[u8], cell: usize) -> Entry
-    requires { ⌜ (Laid t) × (cell < 2560) × (length (now bank) ≡ 16384) ⌝ }
+pub fn entry_at(t: TileSetup, bank: &[u8], cell: usize) -> Entry
+    requires { ⌜ (SetupBounds t) × (cell < 2560) × (length (now bank) ≡ 16384) ⌝ }
     ensures { λ r. ⌜ (r ≡ entryAt t (now (bank .entry)) cell) × (Bytes r) ⌝ }
 {
     let at = entry_address(t, cell);
@@ -77,7 +77,7 @@ pub fn entry_at(t: Layout, bank: &[u8], cell: usize) -> Entry
     Entry { low, high }
 }
 
-pub fn tile_number(t: Layout, e: Entry) -> usize
+pub fn tile_number(t: TileSetup, e: Entry) -> usize
     requires { ⌜ Bytes e ⌝ }
     ensures { λ r. ⌜ (r ≡ tileNumber t e) × (r < 512) ⌝ }
 {
@@ -130,8 +130,8 @@ pub fn pixel_at(bank: &[u8], at: usize, s: Spot) -> usize
 }
 
 // The pixel that an entry shows at (x, y) of its cell.
-pub fn entry_pixel(t: Layout, bank: &[u8], e: Entry, x: usize, y: usize) -> usize
-    requires { ⌜ (Laid t) × (Bytes e) × (length (now bank) ≡ 16384) × (x < 8) × (y < 8) ⌝ }
+pub fn entry_pixel(t: TileSetup, bank: &[u8], e: Entry, x: usize, y: usize) -> usize
+    requires { ⌜ (SetupBounds t) × (Bytes e) × (length (now bank) ≡ 16384) × (x < 8) × (y < 8) ⌝ }
     ensures { λ r. ⌜ (r ≡ entryPixel t (now (bank .entry)) e x y) × (r < 16) ⌝ }
 {
     let at = t.definitions + tile_number(t, e) * 32;
@@ -139,14 +139,14 @@ pub fn entry_pixel(t: Layout, bank: &[u8], e: Entry, x: usize, y: usize) -> usiz
 }
 
 // A place across the map, which goes round after its last column.
-pub fn wrapped(wide: bool, v: usize) -> usize
-    ensures { λ r. ⌜ (r ≡ v % widthOf wide) × (r < 640) ⌝ }
+pub fn wrapped(columns80: bool, v: usize) -> usize
+    ensures { λ r. ⌜ (r ≡ v % widthOf columns80) × (r < 640) ⌝ }
 {
-    if wide { v % 640 } else { v % 320 }
+    if columns80 { v % 640 } else { v % 320 }
 }
 
 // The row of the map that line y shows.
-pub fn down_map(t: Layout, y: usize) -> usize
+pub fn down_map(t: TileSetup, y: usize) -> usize
     requires { ⌜ (t .y < 256) × (y < 256) ⌝ }
     ensures { λ r. ⌜ (r ≡ tyOf t y) × (r < 256) ⌝ }
 {
@@ -154,11 +154,11 @@ pub fn down_map(t: Layout, y: usize) -> usize
 }
 
 // The cell that holds (tx, ty) of the map.
-pub fn cell_of(wide: bool, tx: usize, ty: usize) -> usize
+pub fn cell_of(columns80: bool, tx: usize, ty: usize) -> usize
     requires { ⌜ (tx < 640) × (ty < 256) ⌝ }
-    ensures { λ r. ⌜ (r ≡ cellOf wide tx ty) × (r < 2560) ⌝ }
+    ensures { λ r. ⌜ (r ≡ cellOf columns80 tx ty) × (r < 2560) ⌝ }
 {
-    if wide {
+    if columns80 {
         ty / 8 * 80 + tx / 8
     } else {
         ty / 8 * 40 + tx / 8
@@ -166,12 +166,12 @@ pub fn cell_of(wide: bool, tx: usize, ty: usize) -> usize
 }
 
 // The index at (x, y) of the surface, before transparency and clip.
-pub fn index_at(t: Layout, bank: &[u8], x: usize, y: usize) -> usize
-    requires { ⌜ (Laid t) × (length (now bank) ≡ 16384) × (x < 640) × (y < 256) ⌝ }
+pub fn index_at(t: TileSetup, bank: &[u8], x: usize, y: usize) -> usize
+    requires { ⌜ (SetupBounds t) × (length (now bank) ≡ 16384) × (x < 640) × (y < 256) ⌝ }
     ensures { λ r. ⌜ (r ≡ tileIndex t (now (bank .entry)) x y) × (r < 256) ⌝ }
 {
-    let tx = wrapped(t.wide, x + t.x);
+    let tx = wrapped(t.columns80, x + t.x);
     let ty = down_map(t, y);
-    let e = entry_at(t, bank, cell_of(t.wide, tx, ty));
+    let e = entry_at(t, bank, cell_of(t.columns80, tx, ty));
     e.high / 16 * 16 + entry_pixel(t, bank, e, tx % 8, ty % 8)
 }

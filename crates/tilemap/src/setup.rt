@@ -1,15 +1,15 @@
 // What of the state a line of the tilemap shows, read once a line.
 ghost use mathlib.Core.Path.{_≡_};
 ghost use Prim.Native.Nat.{_+_, _*_, _≤_, _<_};
-ghost use Rattle.tilemap.specs.Setup.{layoutOf, firstPixel, windowOf};
-ghost use Rattle.tilemap.specs.Bounds.{Laid};
-use crate::rule::Layout;
-use lists::wide;
+ghost use Rattle.tilemap.specs.Setup.{setupOf, firstPixel, windowOf};
+ghost use Rattle.tilemap.specs.Bounds.{SetupBounds};
+use crate::rule::TileSetup;
+use lists::usize_of;
 use state::Tiles;
 use surface::LineNumber;
 
 // A clip coordinate that counts pairs of pixels.
-pub struct Pairs(pub u8);
+pub struct PairCount(pub u8);
 
 // What of a line the clip shows, in pixels, both ends inside; nothing where not on.
 pub struct Window {
@@ -18,19 +18,19 @@ pub struct Window {
     pub right: usize,
 }
 
-fn first_pixel(p: Pairs) -> usize
+fn first_pixel(p: PairCount) -> usize
     ensures { λ r. ⌜ (r ≡ firstPixel p) × (r < 512) ⌝ }
 {
-    wide(p.0) * 2
+    usize_of(p.0) * 2
 }
 
 pub fn window_of(t: Tiles, clip: &[u8; 4], l: LineNumber) -> Window
     ensures { λ r. ⌜ r ≡ windowOf t (now (clip .entry)) l ⌝ }
 {
-    let left = first_pixel(Pairs(clip[0]));
-    let right = first_pixel(Pairs(clip[1])) + 1;
-    let top = wide(clip[2]);
-    let bottom = wide(clip[3]);
+    let left = first_pixel(PairCount(clip[0]));
+    let right = first_pixel(PairCount(clip[1])) + 1;
+    let top = usize_of(clip[2]);
+    let bottom = usize_of(clip[3]);
     let on = state::tilemap_on(t);
     let shown = surface::is_inside(l.0, top, bottom);
     Window {
@@ -45,7 +45,7 @@ fn offset_of(high: u8, low: u8) -> usize
     requires { ⌜ high ≤ 3 ⌝ }
     ensures { λ r. ⌜ (r ≡ high * 256 + low) × (r < 1024) ⌝ }
 {
-    wide(high) * 256 + wide(low)
+    usize_of(high) * 256 + usize_of(low)
 }
 
 // The address that $6E or $6F gives.
@@ -53,21 +53,21 @@ fn address_of(v: u8) -> usize
     requires { ⌜ v < 64 ⌝ }
     ensures { λ r. ⌜ (r ≡ v * 256) × (r < 16384) ⌝ }
 {
-    wide(v) * 256
+    usize_of(v) * 256
 }
 
 // The layout of a lawful state: its bounds are those of a lawful state's bytes.
-pub fn layout_of(t: Tiles, on: bool) -> Layout
+pub fn setup_of(t: Tiles, on: bool) -> TileSetup
     requires { ⌜ (t .xhigh ≤ 3) × (t .map < 64) × (t .definitions < 64) ⌝ }
-    ensures { λ r. ⌜ (r ≡ layoutOf t on) × (Laid r) ⌝ }
+    ensures { λ r. ⌜ (r ≡ setupOf t on) × (SetupBounds r) ⌝ }
 {
-    let attribute = wide(t.attribute);
+    let attribute = usize_of(t.attribute);
     let map = address_of(t.map);
     let definitions = address_of(t.definitions);
     let x = offset_of(t.xhigh, t.xlow);
-    let y = wide(t.y);
-    Layout {
-        wide: t.control / 64 % 2 == 1,
+    let y = usize_of(t.y);
+    TileSetup {
+        columns80: t.control / 64 % 2 == 1,
         single: t.control / 32 % 2 == 1,
         attribute,
         ula: on,

@@ -11,33 +11,33 @@ use Rattle.state.specs.declared.Palette.{Palette}
 use Rattle.state.specs.declared.Ports.{Ports}
 use Rattle.surface.specs.Lines.{inDisplay, displayLine}
 use Rattle.surface.specs.declared.lines.LineNumber.{LineNumber}
-use Rattle.attribute.specs.Schemes.{coloursOf}
-use Rattle.attribute.specs.declared.schemes.Colours.{Colours}
-use Rattle.ula.specs.Places.{ulaPalette, placeOf, borderOf, ulaLine}
+use Rattle.ula_attribute.specs.Schemes.{coloursOf}
+use Rattle.ula_attribute.specs.declared.schemes.Colours.{Colours}
+use Rattle.ula.specs.Views.{ulaPalette, viewOf, borderOf, ulaLine}
 use Rattle.ula.specs.Bounds.{shownState}
-use Rattle.ula.specs.Display.{lineDot, ulaDot}
-use Rattle.ula.specs.declared.places.Place.{Place}
-use Rattle.ula.specs.declared.places.UlaLine.{UlaLine}
+use Rattle.ula.specs.Display.{rowDot, ulaDot}
+use Rattle.ula.specs.declared.views.View.{View}
+use Rattle.ula.specs.declared.views.UlaLine.{UlaLine}
 
-abbrev assembled : Bool → Bool → ℕ → Place → Colours → UlaLine
-assembled on display border place colours = record { on = on; display = display; border = border; place = place; colours = colours }
+abbrev assembled : Bool → Bool → ℕ → View → Colours → UlaLine
+assembled on display border view colours = record { on = on; display = display; border = border; view = view; colours = colours }
 
-pub line-of : (s : State) (pal : List ℕ) (line : LineNumber) (on display : Bool) (border : ℕ) (place : Place) (colours : Colours)
+pub line-of : (s : State) (pal : List ℕ) (line : LineNumber) (on display : Bool) (border : ℕ) (view : View) (colours : Colours)
     → on ≡ ulaOn (s .ula) → display ≡ inDisplay line
-    → border ≡ borderOf place colours pal (s .plus) (s .ports .border) → place ≡ placeOf (s .ula) (s .ports) (s .ulaclip) (displayLine line)
-    → colours ≡ coloursOf (s .ula) (s .palette) (s .ports) (s .frame) → assembled on display border place colours ≡ ulaLine s pal line
+    → border ≡ borderOf view colours pal (s .plus) (s .ports .border) → view ≡ viewOf (s .ula) (s .ports) (s .ulaclip) (displayLine line)
+    → colours ≡ coloursOf (s .ula) (s .palette) (s .ports) (s .frame) → assembled on display border view colours ≡ ulaLine s pal line
 unfolding ulaLine
-line-of s pal line on display border place colours o d b p c =
+line-of s pal line on display border view colours o d b p c =
     cc
 
 -- the dots of a line, from what it shows and its palette
 pub dots-of : (u : Ula) (p : Palette) (ports : Ports) (frame : ℕ) (clip plus first second bank pal out : List ℕ) (line : LineNumber) (l : UlaLine)
-    → out ≡ tab (lineDot l pal plus bank) 640 → l ≡ ulaLine (shownState u p ports frame clip plus pal pal) pal line
+    → out ≡ tab (rowDot l pal plus bank) 640 → l ≡ ulaLine (shownState u p ports frame clip plus pal pal) pal line
     → pal ≡ cond (ulaSecondShown p) second first → out ≡ tab (ulaDot (shownState u p ports frame clip plus first second) bank line) 640
 unfolding ulaDot ulaLine ulaPalette
 dots-of u p ports frame clip plus first second bank pal out line l e d q =
-    e ∙ ap (λ (v : UlaLine). tab (lineDot v pal plus bank) 640) d
-    ∙ ap (λ (c : List ℕ). tab (lineDot (ulaLine (shownState u p ports frame clip plus first second) c line) c plus bank) 640) q
+    e ∙ ap (λ (v : UlaLine). tab (rowDot v pal plus bank) 640) d
+    ∙ ap (λ (c : List ℕ). tab (rowDot (ulaLine (shownState u p ports frame clip plus first second) c line) c plus bank) 640) q
 
 -- of a state no other part shows
 pub same-dots : (s : State) (bank : List ℕ) (line : LineNumber)
@@ -54,4 +54,4 @@ pub shown-dots : (s : State) (pal bank : List ℕ) (line : LineNumber) → pal �
     → ulaDot (shownState (s .ula) (s .palette) (s .ports) (s .frame) (s .ulaclip) (s .plus) pal pal) bank line ≡ ulaDot s bank line
 unfolding ulaDot ulaLine ulaPalette
 shown-dots s pal bank line e =
-    ap (λ (c : List ℕ). lineDot (ulaLine s c line) c (s .plus) bank) (twice pal (ulaSecondShown (s .palette)) ∙ e)
+    ap (λ (c : List ℕ). rowDot (ulaLine s c line) c (s .plus) bank) (twice pal (ulaSecondShown (s .palette)) ∙ e)

@@ -10,22 +10,22 @@ use Rattle.lists.specs.Tab.{tab}
 use Rattle.lists.proofs.Tab.{tab-ext, tab-none, tab-part, tab-done, getD-tab}
 use Rattle.lists.proofs.Cond.{if-true, if-false, right-false}
 use Rattle.surface.specs.Dots.{clipped}
-use Rattle.address.specs.Modes.{isLores, isWide}
-use Rattle.attribute.specs.declared.schemes.Colours.{Colours}
-use Rattle.ula.specs.Display.{pixelDot, wideDot, loresDot, modeDot, displayDot, inDots, lineDot}
-use Rattle.ula.specs.declared.places.Place.{Place}
-use Rattle.ula.specs.declared.places.UlaLine.{UlaLine}
+use Rattle.ula_address.specs.Modes.{isLores, isHires}
+use Rattle.ula_attribute.specs.declared.schemes.Colours.{Colours}
+use Rattle.ula.specs.Display.{pixelDot, hiresDot, loresDot, modeDot, displayDot, inDots, rowDot}
+use Rattle.ula.specs.declared.views.View.{View}
+use Rattle.ula.specs.declared.views.UlaLine.{UlaLine}
 
-module _ (p : Place) (l : Colours) (pal plus bank : List ℕ) where
+module _ (p : View) (l : Colours) (pal plus bank : List ℕ) where
   pub shows-lores : isLores (p .mode) ≡ true → tab (λ (d : ℕ). loresDot p l pal bank (d / 2)) 512 ≡ tab (modeDot p l pal plus bank) 512
   unfolding modeDot
   shows-lores a = tab-ext _ _ 512 (λ d g. sym (if-true _ _ _ a))
 
-  pub shows-wide : isLores (p .mode) ≡ false → isWide (p .mode) ≡ true → tab (wideDot p l pal plus bank) 512 ≡ tab (modeDot p l pal plus bank) 512
+  pub shows-hires : isLores (p .mode) ≡ false → isHires (p .mode) ≡ true → tab (hiresDot p l pal plus bank) 512 ≡ tab (modeDot p l pal plus bank) 512
   unfolding modeDot
-  shows-wide a b = tab-ext _ _ 512 (λ d g. sym (if-false _ _ _ a ∙ if-true _ _ _ b))
+  shows-hires a b = tab-ext _ _ 512 (λ d g. sym (if-false _ _ _ a ∙ if-true _ _ _ b))
 
-  pub shows-pixels : isLores (p .mode) ≡ false → isWide (p .mode) ≡ false → tab (λ (d : ℕ). pixelDot p l pal plus bank (d / 2)) 512 ≡ tab (modeDot p l pal plus bank) 512
+  pub shows-pixels : isLores (p .mode) ≡ false → isHires (p .mode) ≡ false → tab (λ (d : ℕ). pixelDot p l pal plus bank (d / 2)) 512 ≡ tab (modeDot p l pal plus bank) 512
   unfolding modeDot
   shows-pixels a b = tab-ext _ _ 512 (λ d g. sym (if-false _ _ _ a ∙ if-false _ _ _ b))
 
@@ -43,34 +43,34 @@ module _ (p : Place) (l : Colours) (pal plus bank : List ℕ) where
   shows-nothing v = tab-ext _ _ 512 (λ d g. sym (if-false _ _ _ v))
 
 module _ (u : UlaLine) (pal plus bank : List ℕ) where
-  pub line-off : (old : List ℕ) (n : ℕ) → n ≡ 640 → u .on ≡ false → old ≡ tab (λ (k : ℕ). 512) n → old ≡ tab (lineDot u pal plus bank) 640
-  unfolding lineDot
+  pub line-off : (old : List ℕ) (n : ℕ) → n ≡ 640 → u .on ≡ false → old ≡ tab (λ (k : ℕ). 512) n → old ≡ tab (rowDot u pal plus bank) 640
+  unfolding rowDot
   line-off old n e o p = rw (p, e) (tab-ext _ _ 640 (λ k g. sym (if-false _ _ _ o)))
 
-  pub line-border : (old : List ℕ) (n : ℕ) → n ≡ 640 → u .on ≡ true → u .display ≡ false → old ≡ tab (λ (k : ℕ). u .border) n → old ≡ tab (lineDot u pal plus bank) 640
-  unfolding lineDot
+  pub line-border : (old : List ℕ) (n : ℕ) → n ≡ 640 → u .on ≡ true → u .display ≡ false → old ≡ tab (λ (k : ℕ). u .border) n → old ≡ tab (rowDot u pal plus bank) 640
+  unfolding rowDot
   line-border old n e o d p =
       rw (p, e) (tab-ext _ _ 640 (λ k g. sym (if-true _ _ _ o ∙ if-false _ _ _ (ap (λ (b : Bool). b && inDots k) d))))
 
-  in-border : (k : ℕ) → u .on ≡ true → inDots k ≡ false → u .border ≡ lineDot u pal plus bank k
-  unfolding lineDot
+  in-border : (k : ℕ) → u .on ≡ true → inDots k ≡ false → u .border ≡ rowDot u pal plus bank k
+  unfolding rowDot
   in-border k o t = sym (if-true _ _ _ o ∙ if-false _ _ _ (right-false (u .display) t))
 
-  in-display : (k : ℕ) → k < 512 → u .on ≡ true → u .display ≡ true → displayDot (u .place) (u .colours) pal plus bank k ≡ lineDot u pal plus bank (64 + k)
-  unfolding lineDot
+  in-display : (k : ℕ) → k < 512 → u .on ≡ true → u .display ≡ true → displayDot (u .view) (u .colours) pal plus bank k ≡ rowDot u pal plus bank (64 + k)
+  unfolding rowDot
   in-display k h o d =
       let e : k ≡ 64 + k - 64 = omega arith in
       let t : (u .display && inDots (64 + k)) ≡ true = rw (d, le-leb 32 ((64 + k) / 2) (omega arith), le-leb ((64 + k) / 2) 287 (omega arith)) in
-      ap (displayDot (u .place) (u .colours) pal plus bank) e ∙ sym (if-true _ _ _ o ∙ if-true _ _ _ t)
+      ap (displayDot (u .view) (u .colours) pal plus bank) e ∙ sym (if-true _ _ _ o ∙ if-true _ _ _ t)
 
   -- the two sides of the border and the display between them, one after the other
   pub line-framed : (old o₁ o₂ o₃ p d q r₁ r₂ r₃ : List ℕ) (n m : ℕ) → u .on ≡ true → u .display ≡ true
       → o₁ ≡ take 0 old ++ (p ++ r₁) → o₂ ≡ take 64 o₁ ++ (d ++ r₂) → o₃ ≡ take 576 o₂ ++ (q ++ r₃)
       → 64 ≤ length o₁ → 576 ≤ length o₂ → length o₃ ≡ 640 → n ≡ 64 → m ≡ 64
-      → p ≡ tab (λ (k : ℕ). u .border) n → d ≡ tab (displayDot (u .place) (u .colours) pal plus bank) 512 → q ≡ tab (λ (k : ℕ). u .border) m
-      → o₃ ≡ tab (lineDot u pal plus bank) 640
+      → p ≡ tab (λ (k : ℕ). u .border) n → d ≡ tab (displayDot (u .view) (u .colours) pal plus bank) 512 → q ≡ tab (λ (k : ℕ). u .border) m
+      → o₃ ≡ tab (rowDot u pal plus bank) 640
   line-framed old o₁ o₂ o₃ p d q r₁ r₂ r₃ n m o s e₁ e₂ e₃ l₁ l₂ l₃ en em ep ed eq =
-      let f : ℕ → ℕ = lineDot u pal plus bank in
+      let f : ℕ → ℕ = rowDot u pal plus bank in
       let left : p ≡ tab (λ (k : ℕ). f (0 + k)) 64 =
       ep ∙ ap (tab (λ (k : ℕ). u .border)) en ∙ tab-ext _ _ 64 (λ k h. in-border (0 + k) o (rw (lt-leb 32 ((0 + k) / 2) (omega arith)))) in
       let middle : d ≡ tab (λ (k : ℕ). f (64 + k)) 512 = ed ∙ tab-ext _ _ 512 (λ k h. in-display k h o s) in

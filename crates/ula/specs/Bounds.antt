@@ -6,20 +6,20 @@ use Rattle.state.specs.declared.State.{State}
 use Rattle.state.specs.declared.Ula.{Ula}
 use Rattle.state.specs.declared.Palette.{Palette}
 use Rattle.state.specs.declared.Ports.{Ports}
-use Rattle.attribute.specs.Bounds.{Solid}
-use Rattle.ula.specs.declared.places.Place.{Place}
-use Rattle.ula.specs.declared.places.UlaLine.{UlaLine}
+use Rattle.ula_attribute.specs.Bounds.{MaskBounds}
+use Rattle.ula.specs.declared.views.View.{View}
+use Rattle.ula.specs.declared.views.UlaLine.{UlaLine}
 
 -- a line of the bank's picture, and bytes
-pub record Placed (p : Place) : Type 0 where
+pub record ViewBounds (p : View) : Type 0 where
   pub row : p .row < 192
   pub offset : p .offset < 256
   pub left : p .left < 256
   pub right : p .right < 256
 
-pub record Ready (u : UlaLine) : Type 0 where
-  pub place : Placed (u .place)
-  pub colours : Solid (u .colours)
+pub record UlaLineBounds (u : UlaLine) : Type 0 where
+  pub view : ViewBounds (u .view)
+  pub colours : MaskBounds (u .colours)
 
 -- the parts of a state that its ULA dots are drawn from, in a state whose other parts are those of a reset
 abbrev pub shownState : Ula → Palette → Ports → ℕ → List ℕ → List ℕ → List ℕ → List ℕ → State

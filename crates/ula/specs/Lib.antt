@@ -1,4 +1,4 @@
-pub mod Places
+pub mod Views
 pub mod Display
 pub mod Rows
 pub mod Bounds

@@ -5,20 +5,20 @@ use mathlib.Core.Bool.{cond}
 use lib.ListN.{getD}
 use lib.Dec.{eqb}
 use Rattle.surface.specs.Dots.{shown}
-use Rattle.address.specs.Scrolls.{dotRead}
-use Rattle.address.specs.Addresses.{wideAddress, loresAddress, bitOf}
-use Rattle.ula.specs.declared.places.Place.{Place}
+use Rattle.ula_address.specs.Scrolls.{dotRead}
+use Rattle.ula_address.specs.Addresses.{hiresAddress, loresAddress, bitOf}
+use Rattle.ula.specs.declared.views.View.{View}
 
 -- one of two dots, by bit x of a byte
-unfoldable pub lit : ℕ → ℕ → ℕ → ℕ → ℕ
-lit b x one none = cond (eqb (bitOf b x) 1) one none
+unfoldable pub chosenDot : ℕ → ℕ → ℕ → ℕ → ℕ
+chosenDot b x bit1 bit0 = cond (eqb (bitOf b x) 1) bit1 bit0
 
 -- one of two dots, by dot d of a row of mode 6
-unfoldable pub wideLit : Place → ℕ → ℕ → List ℕ → ℕ → ℕ
-wideLit p one none bank d =
+unfoldable pub hiresChosen : View → ℕ → ℕ → List ℕ → ℕ → ℕ
+hiresChosen p bit1 bit0 bank d =
     let across = dotRead d (p .offset) in
-    lit (getD bank (wideAddress (p .row) (across / 8)) 0) across one none
+    chosenDot (getD bank (hiresAddress (p .row) (across / 8)) 0) across bit1 bit0
 
 -- the dot of column c of 128 of a LoRes row
 unfoldable pub loresShade : ℕ → ℕ → List ℕ → List ℕ → ℕ → ℕ
-loresShade row clear pal bank c = shown clear (getD pal (getD bank (loresAddress row c) 0) 0)
+loresShade row transparent pal bank c = shown transparent (getD pal (getD bank (loresAddress row c) 0) 0)

@@ -3,47 +3,47 @@ ghost use mathlib.Core.Path.{_≡_};
 ghost use Prim.Native.Nat.{ℕ, _+_, _*_, _/_, _≤_, _<_};
 ghost use lib.ListN.{length};
 ghost use Rattle.lists.specs.Tab.{tab};
-ghost use Rattle.address.specs.Addresses.{bitmapAddress, attributeAddress};
-ghost use Rattle.attribute.specs.Bounds.{Solid};
+ghost use Rattle.ula_address.specs.Addresses.{bitmapAddress, attributeAddress};
+ghost use Rattle.ula_attribute.specs.Bounds.{MaskBounds};
 ghost use Rattle.ula.specs.Display.{pixelDot};
-ghost use Rattle.ula.specs.Rows.{lit, wideLit};
-ghost use Rattle.ula.specs.Bounds.{Placed};
-use crate::places::Place;
-use address::bit_of;
-use attribute::Colours;
+ghost use Rattle.ula.specs.Rows.{chosenDot, hiresChosen};
+ghost use Rattle.ula.specs.Bounds.{ViewBounds};
+use crate::views::View;
+use ula_address::bit_of;
+use ula_attribute::Colours;
 
 // A bit of a byte chooses between two dots.
-fn light(b: u8, x: usize, one: u16, none: u16) -> u16
-    ensures { λ r. ⌜ r ≡ lit b x one none ⌝ }
+fn choose_dot(b: u8, x: usize, bit1: u16, bit0: u16) -> u16
+    ensures { λ r. ⌜ r ≡ chosenDot b x bit1 bit0 ⌝ }
 {
-    if bit_of(b, x) == 1 { one } else { none }
+    if bit_of(b, x) == 1 { bit1 } else { bit0 }
 }
 
 // Eight pixels of two dots each.
-fn pixels(b: u8, one: u16, none: u16, out: &mut [u16])
+fn pixels(b: u8, bit1: u16, bit0: u16, out: &mut [u16])
     requires { ⌜ length (now out) ≡ 16 ⌝ }
-    ensures { λ r. ⌜ now (out .exit) ≡ tab (λ (k : ℕ). lit b (k / 2) one none) 16 ⌝ }
+    ensures { λ r. ⌜ now (out .exit) ≡ tab (λ (k : ℕ). chosenDot b (k / 2) bit1 bit0) 16 ⌝ }
 {
     for j in 0..8 {
-        let v = light(b, j, one, none);
+        let v = choose_dot(b, j, bit1, bit0);
         out[j * 2] = v;
         out[j * 2 + 1] = v;
     }
 }
 
 // Eight dots of mode 6.
-fn dots(b: u8, one: u16, none: u16, out: &mut [u16])
+fn dots(b: u8, bit1: u16, bit0: u16, out: &mut [u16])
     requires { ⌜ length (now out) ≡ 8 ⌝ }
-    ensures { λ r. ⌜ now (out .exit) ≡ tab (λ (k : ℕ). lit b k one none) 8 ⌝ }
+    ensures { λ r. ⌜ now (out .exit) ≡ tab (λ (k : ℕ). chosenDot b k bit1 bit0) 8 ⌝ }
 {
     for k in 0..8 {
-        out[k] = light(b, k, one, none);
+        out[k] = choose_dot(b, k, bit1, bit0);
     }
 }
 
 // Cell i of 32 of modes 0, 1 and 2. The row's bytes start at bits, its attributes at cells.
 pub fn pixel_cell(
-    p: Place,
+    p: View,
     bits: usize,
     cells: usize,
     l: Colours,
@@ -53,7 +53,7 @@ pub fn pixel_cell(
     i: usize,
     out: &mut [u16],
 )
-    requires { ⌜ (Placed p) × (bits ≡ bitmapAddress (p .mode) (p .row) 0) × (cells ≡ attributeAddress (p .mode) (p .row) 0) × (bits ≤ 16352) × (cells ≤ 16352) × (Solid l)
+    requires { ⌜ (ViewBounds p) × (bits ≡ bitmapAddress (p .mode) (p .row) 0) × (cells ≡ attributeAddress (p .mode) (p .row) 0) × (bits ≤ 16352) × (cells ≤ 16352) × (MaskBounds l)
         × (length (now bank) ≡ 16384) × (i < 32) × (length (now out) ≡ 16) ⌝ }
     ensures { λ r. ⌜ now (out .exit) ≡ tab (λ (k : ℕ). pixelDot p l (now (pal .entry)) (now (plus .entry)) (now (bank .entry)) ((i * 16 + k) / 2)) 16 ⌝ }
 {
@@ -62,18 +62,18 @@ pub fn pixel_cell(
     let from = bits + column;
     let a = bank[at];
     let b = bank[from];
-    let d = attribute::bit_dots(l, pal, plus, a);
-    pixels(b, d.one, d.none, out);
+    let d = ula_attribute::bit_dots(l, pal, plus, a);
+    pixels(b, d.bit1, d.bit0, out);
 }
 
 // Column c of 64 of mode 6, whose two dots are the same all along the row.
-pub fn wide_cell(p: Place, one: u16, none: u16, bank: &[u8], c: usize, out: &mut [u16])
-    requires { ⌜ (Placed p) × (length (now bank) ≡ 16384) × (c < 64) × (length (now out) ≡ 8) ⌝ }
-    ensures { λ r. ⌜ now (out .exit) ≡ tab (λ (k : ℕ). wideLit p one none (now (bank .entry)) (c * 8 + k)) 8 ⌝ }
+pub fn hires_cell(p: View, bit1: u16, bit0: u16, bank: &[u8], c: usize, out: &mut [u16])
+    requires { ⌜ (ViewBounds p) × (length (now bank) ≡ 16384) × (c < 64) × (length (now out) ≡ 8) ⌝ }
+    ensures { λ r. ⌜ now (out .exit) ≡ tab (λ (k : ℕ). hiresChosen p bit1 bit0 (now (bank .entry)) (c * 8 + k)) 8 ⌝ }
 {
     let column = (c + p.offset / 8 * 2) % 64;
     let row = p.row;
-    let at = address::wide_address(row, column);
+    let at = ula_address::hires_address(row, column);
     let b = bank[at];
-    dots(b, one, none, out);
+    dots(b, bit1, bit0, out);
 }

@@ -5,33 +5,33 @@ ghost use Prim.Native.Nat.{ℕ, _*_, _/_, _<_, _≤_};
 ghost use lib.ListN.{length, getD};
 ghost use Rattle.lists.specs.Tab.{tab};
 ghost use Rattle.surface.specs.Dots.{clipped};
-ghost use Rattle.state.specs.Lawful.{isMask};
+ghost use Rattle.state.specs.Bounds.{isMask};
 ghost use Rattle.surface.specs.Lines.{isLine};
-ghost use Rattle.attribute.specs.Bounds.{Solid};
-ghost use Rattle.ula.specs.Display.{pixelDot, loresDot, modeDot, displayDot, lineDot, ulaDot};
-ghost use Rattle.ula.specs.Rows.{wideLit, loresShade};
-ghost use Rattle.ula.specs.Bounds.{Placed, Ready, shownState};
+ghost use Rattle.ula_attribute.specs.Bounds.{MaskBounds};
+ghost use Rattle.ula.specs.Display.{pixelDot, loresDot, modeDot, displayDot, rowDot, ulaDot};
+ghost use Rattle.ula.specs.Rows.{hiresChosen, loresShade};
+ghost use Rattle.ula.specs.Bounds.{ViewBounds, UlaLineBounds, shownState};
+use crate::cells::hires_cell;
 use crate::cells::pixel_cell;
-use crate::cells::wide_cell;
-use crate::places::Place;
-use crate::places::UlaLine;
-use crate::places::ula_line;
-use crate::places::ula_palette;
-use attribute::Colours;
-use lists::wide;
+use crate::views::UlaLine;
+use crate::views::View;
+use crate::views::ula_line;
+use crate::views::ula_palette;
+use lists::usize_of;
 use state::Palette;
 use state::Ports;
 use state::Ula;
 use surface::LineNumber;
+use ula_attribute::Colours;
 
-fn pixel_row(p: Place, l: Colours, pal: &[u16; 256], plus: &[u8; 64], bank: &[u8], out: &mut [u16])
-    requires { ⌜ (Placed p) × (Solid l) × (length (now bank) ≡ 16384) × (length (now out) ≡ 512) ⌝ }
+fn pixel_row(p: View, l: Colours, pal: &[u16; 256], plus: &[u8; 64], bank: &[u8], out: &mut [u16])
+    requires { ⌜ (ViewBounds p) × (MaskBounds l) × (length (now bank) ≡ 16384) × (length (now out) ≡ 512) ⌝ }
     ensures { λ r. ⌜ now (out .exit) ≡ tab (λ (d : ℕ). pixelDot p l (now (pal .entry)) (now (plus .entry)) (now (bank .entry)) (d / 2)) 512 ⌝ }
 {
     let mode = p.mode;
     let row = p.row;
-    let bits = address::bitmap_address(mode, row, 0);
-    let cells = address::attribute_address(mode, row, 0);
+    let bits = ula_address::bitmap_address(mode, row, 0);
+    let cells = ula_address::attribute_address(mode, row, 0);
     for i in 0..32 {
         let a = i * 16;
         let e = a + 16;
@@ -39,35 +39,35 @@ fn pixel_row(p: Place, l: Colours, pal: &[u16; 256], plus: &[u8; 64], bank: &[u8
     }
 }
 
-fn wide_row(p: Place, one: u16, none: u16, bank: &[u8], out: &mut [u16])
-    requires { ⌜ (Placed p) × (length (now bank) ≡ 16384) × (length (now out) ≡ 512) ⌝ }
-    ensures { λ r. ⌜ now (out .exit) ≡ tab (wideLit p one none (now (bank .entry))) 512 ⌝ }
+fn hires_row(p: View, bit1: u16, bit0: u16, bank: &[u8], out: &mut [u16])
+    requires { ⌜ (ViewBounds p) × (length (now bank) ≡ 16384) × (length (now out) ≡ 512) ⌝ }
+    ensures { λ r. ⌜ now (out .exit) ≡ tab (hiresChosen p bit1 bit0 (now (bank .entry))) 512 ⌝ }
 {
     for c in 0..64 {
         let a = c * 8;
         let e = a + 8;
-        wide_cell(p, one, none, bank, c, &mut out[a..e]);
+        hires_cell(p, bit1, bit0, bank, c, &mut out[a..e]);
     }
 }
 
 // The dots of the 128 columns of a LoRes row, which its 256 pixels share.
-fn lores_shades(row: usize, clear: u8, pal: &[u16; 256], bank: &[u8], out: &mut [u16])
+fn lores_shades(row: usize, transparent: u8, pal: &[u16; 256], bank: &[u8], out: &mut [u16])
     requires { ⌜ (row < 96) × (length (now bank) ≡ 16384) × (length (now out) ≡ 128) ⌝ }
-    ensures { λ r. ⌜ now (out .exit) ≡ tab (loresShade row clear (now (pal .entry)) (now (bank .entry))) 128 ⌝ }
+    ensures { λ r. ⌜ now (out .exit) ≡ tab (loresShade row transparent (now (pal .entry)) (now (bank .entry))) 128 ⌝ }
 {
     for c in 0..128 {
-        let at = address::lores_address(row, c);
-        let i = wide(bank[at]);
-        out[c] = surface::show(clear, pal[i]);
+        let at = ula_address::lores_address(row, c);
+        let i = usize_of(bank[at]);
+        out[c] = surface::show(transparent, pal[i]);
     }
 }
 
-fn lores_row(p: Place, l: Colours, pal: &[u16; 256], bank: &[u8], out: &mut [u16])
-    requires { ⌜ (Placed p) × (length (now bank) ≡ 16384) × (length (now out) ≡ 512) ⌝ }
+fn lores_row(p: View, l: Colours, pal: &[u16; 256], bank: &[u8], out: &mut [u16])
+    requires { ⌜ (ViewBounds p) × (length (now bank) ≡ 16384) × (length (now out) ≡ 512) ⌝ }
     ensures { λ r. ⌜ now (out .exit) ≡ tab (λ (d : ℕ). loresDot p l (now (pal .entry)) (now (bank .entry)) (d / 2)) 512 ⌝ }
 {
     let mut shades = [0u16; 128];
-    lores_shades(p.row / 2, l.clear, pal, bank, &mut shades);
+    lores_shades(p.row / 2, l.transparent, pal, bank, &mut shades);
     for x in 0..256 {
         let c = (x + p.offset) % 256 / 2;
         let v = shades[c];
@@ -99,17 +99,17 @@ fn clip_row(left: usize, right: usize, out: &mut [u16])
     paint(512, &mut out[past..end]);
 }
 
-fn mode_row(p: Place, l: Colours, pal: &[u16; 256], plus: &[u8; 64], bank: &[u8], out: &mut [u16])
-    requires { ⌜ (Placed p) × (Solid l) × (length (now bank) ≡ 16384) × (length (now out) ≡ 512) ⌝ }
+fn mode_row(p: View, l: Colours, pal: &[u16; 256], plus: &[u8; 64], bank: &[u8], out: &mut [u16])
+    requires { ⌜ (ViewBounds p) × (MaskBounds l) × (length (now bank) ≡ 16384) × (length (now out) ≡ 512) ⌝ }
     ensures { λ r. ⌜ now (out .exit) ≡ tab (modeDot p l (now (pal .entry)) (now (plus .entry)) (now (bank .entry))) 512 ⌝ }
 {
     let mode = p.mode;
-    if address::is_lores(mode) {
+    if ula_address::is_lores(mode) {
         lores_row(p, l, pal, bank, out);
     } else {
-        if address::is_wide(mode) {
-            let d = attribute::bit_dots(l, pal, plus, p.attribute);
-            wide_row(p, d.one, d.none, bank, out);
+        if ula_address::is_hires(mode) {
+            let d = ula_attribute::bit_dots(l, pal, plus, p.attribute);
+            hires_row(p, d.bit1, d.bit0, bank, out);
         } else {
             pixel_row(p, l, pal, plus, bank, out);
         }
@@ -117,15 +117,8 @@ fn mode_row(p: Place, l: Colours, pal: &[u16; 256], plus: &[u8; 64], bank: &[u8]
 }
 
 // The 512 dots of a line of the display.
-fn display_row(
-    p: Place,
-    l: Colours,
-    pal: &[u16; 256],
-    plus: &[u8; 64],
-    bank: &[u8],
-    out: &mut [u16],
-)
-    requires { ⌜ (Placed p) × (Solid l) × (length (now bank) ≡ 16384) × (length (now out) ≡ 512) ⌝ }
+fn display_row(p: View, l: Colours, pal: &[u16; 256], plus: &[u8; 64], bank: &[u8], out: &mut [u16])
+    requires { ⌜ (ViewBounds p) × (MaskBounds l) × (length (now bank) ≡ 16384) × (length (now out) ≡ 512) ⌝ }
     ensures { λ r. ⌜ now (out .exit) ≡ tab (displayDot p l (now (pal .entry)) (now (plus .entry)) (now (bank .entry))) 512 ⌝ }
 {
     if p.visible {
@@ -138,10 +131,10 @@ fn display_row(
 
 // A line of the display between the two sides of the border.
 fn framed_row(u: UlaLine, pal: &[u16; 256], plus: &[u8; 64], bank: &[u8], out: &mut [u16])
-    requires { ⌜ (Ready u) × (u .on ≡ true) × (u .display ≡ true) × (length (now bank) ≡ 16384) × (length (now out) ≡ 640) ⌝ }
-    ensures { λ r. ⌜ now (out .exit) ≡ tab (lineDot u (now (pal .entry)) (now (plus .entry)) (now (bank .entry))) 640 ⌝ }
+    requires { ⌜ (UlaLineBounds u) × (u .on ≡ true) × (u .display ≡ true) × (length (now bank) ≡ 16384) × (length (now out) ≡ 640) ⌝ }
+    ensures { λ r. ⌜ now (out .exit) ≡ tab (rowDot u (now (pal .entry)) (now (plus .entry)) (now (bank .entry))) 640 ⌝ }
 {
-    let p = u.place;
+    let p = u.view;
     let l = u.colours;
     let start = 0;
     let a = 64;
@@ -153,8 +146,8 @@ fn framed_row(u: UlaLine, pal: &[u16; 256], plus: &[u8; 64], bank: &[u8], out: &
 }
 
 fn line_row(u: UlaLine, pal: &[u16; 256], plus: &[u8; 64], bank: &[u8], out: &mut [u16])
-    requires { ⌜ (Ready u) × (length (now bank) ≡ 16384) × (length (now out) ≡ 640) ⌝ }
-    ensures { λ r. ⌜ now (out .exit) ≡ tab (lineDot u (now (pal .entry)) (now (plus .entry)) (now (bank .entry))) 640 ⌝ }
+    requires { ⌜ (UlaLineBounds u) × (length (now bank) ≡ 16384) × (length (now out) ≡ 640) ⌝ }
+    ensures { λ r. ⌜ now (out .exit) ≡ tab (rowDot u (now (pal .entry)) (now (plus .entry)) (now (bank .entry))) 640 ⌝ }
 {
     if u.on {
         if u.display {

@@ -4,8 +4,8 @@ use borrow.Author.Needs.{needs}
 use Rattle.sums.proofs.add_dot.Statement.{statement}
 use Rattle.sums.proofs.add_dot.Tie as tie
 
-wide32-requires : tie.Need-wide32-requires
-wide32-requires c κs = search needs
+u32-of-requires : tie.Need-u32-of-requires
+u32-of-requires c κs = search needs
 
 add-requires : tie.Need-add-requires
 add-requires c κs = search needs
@@ -14,7 +14,7 @@ add-requires-2 : tie.Need-add-requires-2
 add-requires-2 c κs = search needs
 
 returns : tie.Need-returns
-returns c = (c .add2 .ensures .0 ∙ rw (c .before .add .ensures .0, c .before .before .wide32 .ensures .0), c .add2 .ensures .1)
+returns c = (c .add2 .ensures .0 ∙ rw (c .before .add .ensures .0, c .before .before .u32-of .ensures .0), c .add2 .ensures .1)
 
 pub add-dot-spec : {M : Type 1} → statement M
-add-dot-spec = tie.close (tie.spec wide32-requires add-requires add-requires-2 returns)
+add-dot-spec = tie.close (tie.spec u32-of-requires add-requires add-requires-2 returns)

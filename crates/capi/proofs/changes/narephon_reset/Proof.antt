@@ -1,6 +1,6 @@
 -- `narephon_reset` writes the record of the reset state.
 use Rattle.reply.specs.Reply.{replyNumber}
-use Rattle.layout.specs.Record.{writeReply, writtenIn}
+use Rattle.record_layout.specs.Record.{writeReply, writtenIn}
 use mathlib.Core.Path.{ap, _∙_}
 use borrow.Author.Needs.{needs}
 use Rattle.capi.proofs.changes.narephon_reset.Statement.{statement}

@@ -1,7 +1,7 @@
 -- As for the ULA.
 use Rattle.capi.proofs.Shown.{tiles-shown, colours-shown}
 use Rattle.line.proofs.Bounded.{bounded}
-use Rattle.layout.specs.Record.{stateIn}
+use Rattle.record_layout.specs.Record.{stateIn}
 use borrow.Author.Tests.{leb-true}
 use native.Mathlib.Omega.{arith}
 use borrow.Author.Needs.{needs}

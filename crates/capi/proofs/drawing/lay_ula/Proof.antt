@@ -2,8 +2,8 @@
 use native.Mathlib.Omega.{arith}
 use Rattle.capi.proofs.Shown.{ula-shown}
 use Rattle.line.proofs.Bounded.{bounded}
-use Rattle.layout.specs.Record.{stateIn}
-use Rattle.state.specs.Lawful.{isMask}
+use Rattle.record_layout.specs.Record.{stateIn}
+use Rattle.state.specs.Bounds.{isMask}
 use Rattle.state.specs.declared.Palette.{Palette}
 use mathlib.Core.Path.{refl, ap, _∙_}
 use borrow.Author.Needs.{needs}

@@ -3,8 +3,8 @@ use borrow.Author.Needs.{needs}
 use Rattle.colour.proofs.bytes.plus_colour.Statement.{statement}
 use Rattle.colour.proofs.bytes.plus_colour.Tie as tie
 
-wide16-requires : tie.Need-wide16-requires
-wide16-requires c κs = search needs
+u16-of-requires : tie.Need-u16-of-requires
+u16-of-requires c κs = search needs
 
 mul-result : tie.Need-mul-result
 mul-result c = search needs
@@ -31,7 +31,7 @@ pub plus-colour-spec : {M : Type 1} → statement M
 plus-colour-spec =
     tie.close
     (tie.spec
-    wide16-requires
+    u16-of-requires
     mul-result
     mul-result-2
     add-result

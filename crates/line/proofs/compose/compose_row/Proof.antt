@@ -30,7 +30,7 @@ returns c = let p = c .before .before in
     let q = p .before .before .before .before in
     let r = q .before .before .before in
     let s = r .before .before .before .before .args in
-    composed-row (s .stencil) (s .row .now) (s .out .now) _ _ _ (s .wide) (s .skew) (s .left) (s .right) (r .row-dots .ensures) (q .clip-dots .ensures) (p .compose-dots .ensures)
+    composed-row (s .stencil) (s .row .now) (s .out .now) _ _ _ (s .columns80) (s .skew) (s .left) (s .right) (r .row-dots .ensures) (q .clip-dots .ensures) (p .compose-dots .ensures)
 
 pub compose-row-spec : {M : Type 1} → statement M
 compose-row-spec =

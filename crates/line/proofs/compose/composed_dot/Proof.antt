@@ -10,11 +10,11 @@ use Rattle.line.proofs.compose.composed_dot.Tie as tie
 stencil-dot-requires : tie.Need-stencil-dot-requires
 stencil-dot-requires c κs = search needs
 
-over-requires : tie.Need-over-requires
-over-requires c κs = search needs
+top-dot-requires : tie.Need-top-dot-requires
+top-dot-requires c κs = search needs
 
-over-requires-2 : tie.Need-over-requires-2
-over-requires-2 c κs = search needs
+top-dot-requires-2 : tie.Need-top-dot-requires-2
+top-dot-requires-2 c κs = search needs
 
 returns : tie.Need-returns
 unfolding shadeOver
@@ -33,8 +33,8 @@ composed-dot-spec =
     tie.close
     (tie.spec
     stencil-dot-requires
-    over-requires
-    over-requires-2
+    top-dot-requires
+    top-dot-requires-2
     returns
     returns-2
     returns-3)

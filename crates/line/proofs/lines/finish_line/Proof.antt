@@ -1,6 +1,6 @@
 -- The first k dots are finished, the others are as they were.
 use Rattle.line.specs.Lines.{finished}
-use Rattle.surface.specs.Dots.{above}
+use Rattle.surface.specs.Dots.{topDot}
 use Rattle.line.proofs.Layers.{rest-step}
 use Rattle.lists.proofs.Tab.{tab-none, tab-step, tab-done}
 use Rattle.lists.specs.Tab.{tab}
@@ -13,7 +13,7 @@ use Rattle.line.proofs.lines.finish_line.Statement.{statement}
 use Rattle.line.proofs.lines.finish_line.Tie as tie
 
 abbrev Inv-loop : tie.InvT-loop
-Inv-loop fallback out₀ k₀ out k = (k ≤ 640) × (length out ≡ 640) × (take k out ≡ tab (λ (j : ℕ). above (getD out₀ j 0) fallback) k) × ((j : ℕ) → k ≤ j → getD out j 0 ≡ getD out₀ j 0)
+Inv-loop fallback out₀ k₀ out k = (k ≤ 640) × (length out ≡ 640) × (take k out ≡ tab (λ (j : ℕ). topDot (getD out₀ j 0) fallback) k) × ((j : ℕ) → k ≤ j → getD out j 0 ≡ getD out₀ j 0)
 
 abbrev μ-loop : tie.MeasureT-loop
 μ-loop fallback out₀ k₀ out k = 640 - k
@@ -21,14 +21,14 @@ abbrev μ-loop : tie.MeasureT-loop
 loop-holds : tie.Need-loop-holds Inv-loop μ-loop
 loop-holds c = (search needs, search needs, tab-none _, λ j h. refl)
 
-mul-over : tie.Need-mul-over Inv-loop μ-loop
-mul-over c = search needs
+mul-top-dot : tie.Need-mul-top-dot Inv-loop μ-loop
+mul-top-dot c = search needs
 
-slice-read-over : tie.Need-slice-read-over Inv-loop μ-loop
-slice-read-over c = search needs
+slice-read-top-dot : tie.Need-slice-read-top-dot Inv-loop μ-loop
+slice-read-top-dot c = search needs
 
-over-requires : tie.Need-over-requires Inv-loop μ-loop
-over-requires c κs = search needs
+top-dot-requires : tie.Need-top-dot-requires Inv-loop μ-loop
+top-dot-requires c κs = search needs
 
 mul-out : tie.Need-mul-out Inv-loop μ-loop
 mul-out c = search needs
@@ -45,7 +45,7 @@ loop-less c = search needs
 loop-again : tie.Need-loop-again Inv-loop μ-loop
 loop-again c = let h = c .before .before .before .loop in
     let s = c .before .before .before .before .before .args in
-    (search needs, simp length-set (omega arith), tab-step _ _ _ _ (omega arith) (h .inv .2) (c .over .ensures ∙ ap (λ (v : ℕ). above v (s .fallback)) (h .inv .3 (h .k) (omega arith))), rest-step (h .out) (s .out .now) (h .k) (c .over .result) (h .inv .3))
+    (search needs, simp length-set (omega arith), tab-step _ _ _ _ (omega arith) (h .inv .2) (c .top-dot .ensures ∙ ap (λ (v : ℕ). topDot v (s .fallback)) (h .inv .3 (h .k) (omega arith))), rest-step (h .out) (s .out .now) (h .k) (c .top-dot .result) (h .inv .3))
 
 same-length : tie.Need-same-length Inv-loop μ-loop
 same-length c = omega arith
@@ -62,9 +62,9 @@ finish-line-spec =
     Inv-loop
     μ-loop
     loop-holds
-    mul-over
-    slice-read-over
-    over-requires
+    mul-top-dot
+    slice-read-top-dot
+    top-dot-requires
     mul-out
     slice-write-out
     add-k

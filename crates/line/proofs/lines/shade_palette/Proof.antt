@@ -1,5 +1,5 @@
 -- The first i entries are there.
-use Rattle.line.specs.Shades.{unlessClear, shadesOf}
+use Rattle.line.specs.Shades.{unlessTransparent, shadesOf}
 use Rattle.lists.proofs.Tab.{tab-none, tab-step, tab-done}
 use Rattle.lists.specs.Tab.{tab}
 use lib.ListN.{length, take, getD, length-set}
@@ -11,25 +11,25 @@ use Rattle.line.proofs.lines.shade_palette.Statement.{statement}
 use Rattle.line.proofs.lines.shade_palette.Tie as tie
 
 abbrev Inv-loop : tie.InvT-loop
-Inv-loop pal clear out₀ i₀ out i = (i ≤ 256) × (length out ≡ 256) × (take i out ≡ tab (λ (j : ℕ). unlessClear clear j (getD pal j 0)) i)
+Inv-loop pal transparent out₀ i₀ out i = (i ≤ 256) × (length out ≡ 256) × (take i out ≡ tab (λ (j : ℕ). unlessTransparent transparent j (getD pal j 0)) i)
 
 abbrev μ-loop : tie.MeasureT-loop
-μ-loop pal clear out₀ i₀ out i = 256 - i
+μ-loop pal transparent out₀ i₀ out i = 256 - i
 
 loop-holds : tie.Need-loop-holds Inv-loop μ-loop
 loop-holds c = (search needs, search needs, tab-none _)
 
-cast-unless-clear : tie.Need-cast-unless-clear Inv-loop μ-loop
-cast-unless-clear c = search needs
+cast-unless-transparent : tie.Need-cast-unless-transparent Inv-loop μ-loop
+cast-unless-transparent c = search needs
 
-mul-unless-clear : tie.Need-mul-unless-clear Inv-loop μ-loop
-mul-unless-clear c = search needs
+mul-unless-transparent : tie.Need-mul-unless-transparent Inv-loop μ-loop
+mul-unless-transparent c = search needs
 
-element-copy-out-unless-clear : tie.Need-element-copy-out-unless-clear Inv-loop μ-loop
-element-copy-out-unless-clear c = search needs
+element-copy-out-unless-transparent : tie.Need-element-copy-out-unless-transparent Inv-loop μ-loop
+element-copy-out-unless-transparent c = search needs
 
-unless-clear-requires : tie.Need-unless-clear-requires Inv-loop μ-loop
-unless-clear-requires c κs = search needs
+unless-transparent-requires : tie.Need-unless-transparent-requires Inv-loop μ-loop
+unless-transparent-requires c κs = search needs
 
 mul-out : tie.Need-mul-out Inv-loop μ-loop
 mul-out c = search needs
@@ -44,7 +44,7 @@ loop-less : tie.Need-loop-less Inv-loop μ-loop
 loop-less c = search needs
 
 loop-again : tie.Need-loop-again Inv-loop μ-loop
-loop-again c = (search needs, simp length-set (omega arith), tab-step _ _ _ _ (omega arith) (c .before .before .before .loop .inv .2) (c .unless-clear .ensures))
+loop-again c = (search needs, simp length-set (omega arith), tab-step _ _ _ _ (omega arith) (c .before .before .before .loop .inv .2) (c .unless-transparent .ensures))
 
 same-length : tie.Need-same-length Inv-loop μ-loop
 same-length c = search needs
@@ -60,10 +60,10 @@ shade-palette-spec =
     Inv-loop
     μ-loop
     loop-holds
-    cast-unless-clear
-    mul-unless-clear
-    element-copy-out-unless-clear
-    unless-clear-requires
+    cast-unless-transparent
+    mul-unless-transparent
+    element-copy-out-unless-transparent
+    unless-transparent-requires
     mul-out
     slice-write-out
     add-i

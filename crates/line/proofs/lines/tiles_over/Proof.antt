@@ -1,6 +1,6 @@
 -- Each part is what its call ensures.
 use mathlib.Core.Path.{ap, _∙_}
-use Rattle.tilemap.specs.Setup.{layoutOf}
+use Rattle.tilemap.specs.Setup.{setupOf}
 use Rattle.state.specs.Bits.{tileSecondShown}
 use Rattle.line.proofs.Layers.{tiles-of}
 use Rattle.line.proofs.Shaded.{shown-colours}
@@ -17,8 +17,8 @@ window-of-requires c κs = search needs
 ula-on-requires : tie.Need-ula-on-requires
 ula-on-requires c κs = search needs
 
-layout-of-requires : tie.Need-layout-of-requires
-layout-of-requires c κs = search needs
+setup-of-requires : tie.Need-setup-of-requires
+setup-of-requires c κs = search needs
 
 stencil-on-requires : tie.Need-stencil-on-requires
 stencil-on-requires c κs = search needs
@@ -26,7 +26,7 @@ stencil-on-requires c κs = search needs
 layered-requires : tie.Need-layered-requires
 layered-requires c κs = let p = c .before .before .before .before .before in
     let s = p .before .before .before in
-    (c .before .before .layout-of .ensures .1, shown-colours (tileSecondShown (s .args .t)) _ (s .args .first .now) (s .args .second .now) (p .tile-palette .ensures) (s .pre .3) (s .pre .4), s .pre .5, s .pre .6, s .pre .7)
+    (c .before .before .setup-of .ensures .1, shown-colours (tileSecondShown (s .args .t)) _ (s .args .first .now) (s .args .second .now) (p .tile-palette .ensures) (s .pre .3) (s .pre .4), s .pre .5, s .pre .6, s .pre .7)
 
 same-length : tie.Need-same-length
 same-length c = search needs
@@ -34,7 +34,7 @@ same-length c = search needs
 returns : tie.Need-returns
 returns c = let s = c .before .before .before .before .before .before .before .before .before .before .before .args in
     let l = c .before .before .before .before .before in
-    tiles-of (s .u) (s .t) (s .clip .now) (s .first .now) (s .second .now) (s .bank .now) _ (s .out .now) _ _ _ _ _ (c .before .before .layered .ensures) (l .before .before .before .tile-palette .ensures) (l .layout-of .ensures .0 ∙ ap (layoutOf (s .t)) (l .before .ula-on .ensures)) (l .before .before .window-of .ensures) (c .before .before .before .before .stencil-on .ensures)
+    tiles-of (s .u) (s .t) (s .clip .now) (s .first .now) (s .second .now) (s .bank .now) _ (s .out .now) _ _ _ _ _ (c .before .before .layered .ensures) (l .before .before .before .tile-palette .ensures) (l .setup-of .ensures .0 ∙ ap (setupOf (s .t)) (l .before .ula-on .ensures)) (l .before .before .window-of .ensures) (c .before .before .before .before .stencil-on .ensures)
 
 pub tiles-over-spec : {M : Type 1} → statement M
 tiles-over-spec =
@@ -43,7 +43,7 @@ tiles-over-spec =
     tile-palette-requires
     window-of-requires
     ula-on-requires
-    layout-of-requires
+    setup-of-requires
     stencil-on-requires
     layered-requires
     same-length

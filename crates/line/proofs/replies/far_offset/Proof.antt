@@ -6,14 +6,14 @@ use Rattle.line.proofs.replies.far_offset.Tie as tie
 width-of-requires : tie.Need-width-of-requires
 width-of-requires c κs = search needs
 
-wide-requires : tie.Need-wide-requires
-wide-requires c κs = search needs
+usize-of-requires : tie.Need-usize-of-requires
+usize-of-requires c κs = search needs
 
 mul-x : tie.Need-mul-x
 mul-x c = search needs
 
-wide-requires-2 : tie.Need-wide-requires-2
-wide-requires-2 c κs = search needs
+usize-of-requires-2 : tie.Need-usize-of-requires-2
+usize-of-requires-2 c κs = search needs
 
 add-x : tie.Need-add-x
 add-x c = search needs
@@ -29,9 +29,9 @@ far-offset-spec =
     tie.close
     (tie.spec
     width-of-requires
-    wide-requires
+    usize-of-requires
     mul-x
-    wide-requires-2
+    usize-of-requires-2
     add-x
     tilemap-on-requires
     returns)

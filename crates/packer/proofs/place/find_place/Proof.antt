@@ -1,6 +1,6 @@
 -- The loop of `find_place`: no cell listed so far makes the cell.
 use Rattle.packer.proofs.Listing.{found-none}
-use Rattle.classes.specs.Turned.{canMake, turnFor}
+use Rattle.pack_classes.specs.Turned.{canMake, turnFor}
 use Rattle.lists.proofs.Search.{least-here, least-none}
 use borrow.Author.Count.{below-none, below-more}
 use mathlib.Core.Bool.{false}

@@ -3,8 +3,8 @@ use native.Mathlib.Omega.{arith}
 use borrow.Author.Tests.{ne-eqb}
 use Prim.Native.Nat.{_+_}
 use lib.ListN.{length}
-use Rattle.layout.specs.Fields.{pair, fieldAt}
-use Rattle.layout.specs.Record.{counted}
+use Rattle.record_layout.specs.Fields.{pair, fieldAt}
+use Rattle.record_layout.specs.Record.{counted}
 use borrow.Author.Needs.{needs}
 use Rattle.record.proofs.reading.has_count.Statement.{statement}
 use Rattle.record.proofs.reading.has_count.Tie as tie
@@ -13,20 +13,20 @@ returns : tie.Need-returns
 unfolding counted
 returns c = let b = c .before .before .args .b .now in rw (ne-eqb (length b) (2 + fieldAt pair b 0) (λ e. omega arith))
 
-shared-slice-read-wide : tie.Need-shared-slice-read-wide
-shared-slice-read-wide c = search needs
+shared-slice-read-usize-of : tie.Need-shared-slice-read-usize-of
+shared-slice-read-usize-of c = search needs
 
-wide-requires : tie.Need-wide-requires
-wide-requires c κs = search needs
+usize-of-requires : tie.Need-usize-of-requires
+usize-of-requires c κs = search needs
 
 mul-following : tie.Need-mul-following
 mul-following c = search needs
 
-shared-slice-read-wide-2 : tie.Need-shared-slice-read-wide-2
-shared-slice-read-wide-2 c = search needs
+shared-slice-read-usize-of-2 : tie.Need-shared-slice-read-usize-of-2
+shared-slice-read-usize-of-2 c = search needs
 
-wide-requires-2 : tie.Need-wide-requires-2
-wide-requires-2 c κs = search needs
+usize-of-requires-2 : tie.Need-usize-of-requires-2
+usize-of-requires-2 c κs = search needs
 
 add-following : tie.Need-add-following
 add-following c = search needs
@@ -36,18 +36,18 @@ add-result c = search needs
 
 returns-2 : tie.Need-returns-2
 unfolding counted
-returns-2 c = rw (c .before .before .wide .ensures .0, c .wide2 .ensures .0)
+returns-2 c = rw (c .before .before .usize-of .ensures .0, c .usize-of2 .ensures .0)
 
 pub has-count-spec : {M : Type 1} → statement M
 has-count-spec =
     tie.close
     (tie.spec
     returns
-    shared-slice-read-wide
-    wide-requires
+    shared-slice-read-usize-of
+    usize-of-requires
     mul-following
-    shared-slice-read-wide-2
-    wide-requires-2
+    shared-slice-read-usize-of-2
+    usize-of-requires-2
     add-following
     add-result
     returns-2)

@@ -1,5 +1,5 @@
 -- The four palettes, at their places in the layout.
-use Rattle.layout.specs.Record.{stateIn}
+use Rattle.record_layout.specs.Record.{stateIn}
 use borrow.Author.Needs.{needs}
 use Rattle.record.proofs.reading.has_palettes.Statement.{statement}
 use Rattle.record.proofs.reading.has_palettes.Tie as tie

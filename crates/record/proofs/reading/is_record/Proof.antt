@@ -1,5 +1,5 @@
 -- The stated number gives the length that the later stages ask for.
-use Rattle.layout.proofs.Claims.{counted-number}
+use Rattle.record_layout.proofs.Claims.{counted-number}
 use native.Mathlib.Omega.{arith}
 use mathlib.Core.Path.{sym, _∙_}
 use borrow.Author.Needs.{needs}

@@ -1,8 +1,8 @@
 -- `write_record` is refused by the length, then by the state; else its two callees place the record whole.
 use borrow.Author.Tests.{eq-eqb, ne-eqb}
 use mathlib.Core.Path.{sym, _∙_}
-use Rattle.layout.specs.Bounds.{Sized}
-use Rattle.parts.proofs.Made.{record-made}
+use Rattle.record_layout.specs.Bounds.{Sized}
+use Rattle.record_parts.proofs.Made.{record-made}
 use borrow.Author.Needs.{needs}
 use Rattle.record.proofs.writing.write_record.Statement.{statement}
 use Rattle.record.proofs.writing.write_record.Tie as tie

@@ -15,7 +15,7 @@ use Rattle.tilemap.proofs.cells.tile_row.Tie as tie
 abbrev Inv-loop : tie.InvT-loop
 Inv-loop t shades bank out₀ ty n j₀ out j =
     (j ≤ n) × (j % 8 ≡ 0) × (n ≡ rowLength t) × (n % 8 ≡ 0) × (n ≤ 648) × (ty < 256) × (length out ≡ 648)
-    × (out ≡ tab (λ (k : ℕ). shadeAt t shades bank ((t .x / 8 * 8 + k) % widthOf (t .wide)) ty) j ++ drop j out₀)
+    × (out ≡ tab (λ (k : ℕ). shadeAt t shades bank ((t .x / 8 * 8 + k) % widthOf (t .columns80)) ty) j ++ drop j out₀)
 
 abbrev μ-loop : tie.MeasureT-loop
 μ-loop t shades bank out₀ ty n j₀ out j = n - j

@@ -4,15 +4,15 @@ use borrow.Author.Needs.{needs}
 use Rattle.tilemap.proofs.rule.fetch.Statement.{statement}
 use Rattle.tilemap.proofs.rule.fetch.Tie as tie
 
-shared-slice-read-wide : tie.Need-shared-slice-read-wide
-shared-slice-read-wide c = search needs
+shared-slice-read-usize-of : tie.Need-shared-slice-read-usize-of
+shared-slice-read-usize-of c = search needs
 
-wide-requires : tie.Need-wide-requires
-wide-requires c κs = search needs
+usize-of-requires : tie.Need-usize-of-requires
+usize-of-requires c κs = search needs
 
 returns : tie.Need-returns
 unfolding fetched
 returns c = (cc, search needs)
 
 pub fetch-spec : {M : Type 1} → statement M
-fetch-spec = tie.close (tie.spec shared-slice-read-wide wide-requires returns)
+fetch-spec = tie.close (tie.spec shared-slice-read-usize-of usize-of-requires returns)

@@ -4,14 +4,14 @@ use borrow.Author.Needs.{needs}
 use Rattle.tilemap.proofs.setup.window_of.Statement.{statement}
 use Rattle.tilemap.proofs.setup.window_of.Tie as tie
 
-element-copy-out-wide : tie.Need-element-copy-out-wide
-element-copy-out-wide c = search needs
+element-copy-out-usize-of : tie.Need-element-copy-out-usize-of
+element-copy-out-usize-of c = search needs
 
 first-pixel-requires : tie.Need-first-pixel-requires
 first-pixel-requires c κs = search needs
 
-element-copy-out-wide-2 : tie.Need-element-copy-out-wide-2
-element-copy-out-wide-2 c = search needs
+element-copy-out-usize-of-2 : tie.Need-element-copy-out-usize-of-2
+element-copy-out-usize-of-2 c = search needs
 
 first-pixel-requires-2 : tie.Need-first-pixel-requires-2
 first-pixel-requires-2 c κs = search needs
@@ -19,17 +19,17 @@ first-pixel-requires-2 c κs = search needs
 add-right : tie.Need-add-right
 add-right c = search needs
 
-element-copy-out-wide-3 : tie.Need-element-copy-out-wide-3
-element-copy-out-wide-3 c = search needs
+element-copy-out-usize-of-3 : tie.Need-element-copy-out-usize-of-3
+element-copy-out-usize-of-3 c = search needs
 
-wide-requires : tie.Need-wide-requires
-wide-requires c κs = search needs
+usize-of-requires : tie.Need-usize-of-requires
+usize-of-requires c κs = search needs
 
-element-copy-out-wide-4 : tie.Need-element-copy-out-wide-4
-element-copy-out-wide-4 c = search needs
+element-copy-out-usize-of-4 : tie.Need-element-copy-out-usize-of-4
+element-copy-out-usize-of-4 c = search needs
 
-wide-requires-2 : tie.Need-wide-requires-2
-wide-requires-2 c κs = search needs
+usize-of-requires-2 : tie.Need-usize-of-requires-2
+usize-of-requires-2 c κs = search needs
 
 tilemap-on-requires : tie.Need-tilemap-on-requires
 tilemap-on-requires c κs = search needs
@@ -45,15 +45,15 @@ pub window-of-spec : {M : Type 1} → statement M
 window-of-spec =
     tie.close
     (tie.spec
-    element-copy-out-wide
+    element-copy-out-usize-of
     first-pixel-requires
-    element-copy-out-wide-2
+    element-copy-out-usize-of-2
     first-pixel-requires-2
     add-right
-    element-copy-out-wide-3
-    wide-requires
-    element-copy-out-wide-4
-    wide-requires-2
+    element-copy-out-usize-of-3
+    usize-of-requires
+    element-copy-out-usize-of-4
+    usize-of-requires-2
     tilemap-on-requires
     is-inside-requires
     returns)

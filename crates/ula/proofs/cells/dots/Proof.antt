@@ -1,5 +1,5 @@
 -- The first k dots are right.
-use Rattle.ula.specs.Rows.{lit}
+use Rattle.ula.specs.Rows.{chosenDot}
 use Rattle.lists.proofs.Tab.{tab-none, tab-step, tab-done}
 use Rattle.lists.specs.Tab.{tab}
 use lib.ListN.{length, take, length-set}
@@ -11,16 +11,16 @@ use Rattle.ula.proofs.cells.dots.Statement.{statement}
 use Rattle.ula.proofs.cells.dots.Tie as tie
 
 abbrev Inv-loop : tie.InvT-loop
-Inv-loop b one none out₀ k₀ out k = (k ≤ 8) × (length out ≡ 8) × (take k out ≡ tab (λ (j : ℕ). lit b j one none) k)
+Inv-loop b bit1 bit0 out₀ k₀ out k = (k ≤ 8) × (length out ≡ 8) × (take k out ≡ tab (λ (j : ℕ). chosenDot b j bit1 bit0) k)
 
 abbrev μ-loop : tie.MeasureT-loop
-μ-loop b one none out₀ k₀ out k = 8 - k
+μ-loop b bit1 bit0 out₀ k₀ out k = 8 - k
 
 loop-holds : tie.Need-loop-holds Inv-loop μ-loop
 loop-holds c = (search needs, search needs, tab-none _)
 
-light-requires : tie.Need-light-requires Inv-loop μ-loop
-light-requires c κs = search needs
+choose-dot-requires : tie.Need-choose-dot-requires Inv-loop μ-loop
+choose-dot-requires c κs = search needs
 
 mul-out : tie.Need-mul-out Inv-loop μ-loop
 mul-out c = search needs
@@ -35,7 +35,7 @@ loop-less : tie.Need-loop-less Inv-loop μ-loop
 loop-less c = search needs
 
 loop-again : tie.Need-loop-again Inv-loop μ-loop
-loop-again c = (search needs, simp length-set (omega arith), tab-step _ _ _ _ (omega arith) (c .before .before .loop .inv .2) (c .light .ensures))
+loop-again c = (search needs, simp length-set (omega arith), tab-step _ _ _ _ (omega arith) (c .before .before .loop .inv .2) (c .choose-dot .ensures))
 
 same-length : tie.Need-same-length Inv-loop μ-loop
 same-length c = omega arith
@@ -51,7 +51,7 @@ dots-spec =
     Inv-loop
     μ-loop
     loop-holds
-    light-requires
+    choose-dot-requires
     mul-out
     slice-write-out
     add-k

@@ -1,5 +1,5 @@
 -- The first j pixels are right, each of two dots.
-use Rattle.ula.specs.Rows.{lit}
+use Rattle.ula.specs.Rows.{chosenDot}
 use Rattle.lists.proofs.Tab.{tab-none, tab-done, tab-pair}
 use Rattle.lists.specs.Tab.{tab}
 use lib.ListN.{length, take, length-set}
@@ -11,16 +11,16 @@ use Rattle.ula.proofs.cells.pixels.Statement.{statement}
 use Rattle.ula.proofs.cells.pixels.Tie as tie
 
 abbrev Inv-loop : tie.InvT-loop
-Inv-loop b one none out₀ j₀ out j = (j ≤ 8) × (length out ≡ 16) × (take (j * 2) out ≡ tab (λ (k : ℕ). lit b (k / 2) one none) (j * 2))
+Inv-loop b bit1 bit0 out₀ j₀ out j = (j ≤ 8) × (length out ≡ 16) × (take (j * 2) out ≡ tab (λ (k : ℕ). chosenDot b (k / 2) bit1 bit0) (j * 2))
 
 abbrev μ-loop : tie.MeasureT-loop
-μ-loop b one none out₀ j₀ out j = 8 - j
+μ-loop b bit1 bit0 out₀ j₀ out j = 8 - j
 
 loop-holds : tie.Need-loop-holds Inv-loop μ-loop
 loop-holds c = (search needs, search needs, tab-none _)
 
-light-requires : tie.Need-light-requires Inv-loop μ-loop
-light-requires c κs = search needs
+choose-dot-requires : tie.Need-choose-dot-requires Inv-loop μ-loop
+choose-dot-requires c κs = search needs
 
 mul-out : tie.Need-mul-out Inv-loop μ-loop
 mul-out c = search needs
@@ -51,7 +51,7 @@ loop-less c = search needs
 
 loop-again : tie.Need-loop-again Inv-loop μ-loop
 loop-again c = let s = c .before .before .before .before .args in
-    (search needs, simp length-set (omega arith), tab-pair (λ (k : ℕ). lit (s .b) k (s .one) (s .none)) _ _ _ (omega arith) (c .before .before .loop .inv .2) (c .light .ensures))
+    (search needs, simp length-set (omega arith), tab-pair (λ (k : ℕ). chosenDot (s .b) k (s .bit1) (s .bit0)) _ _ _ (omega arith) (c .before .before .loop .inv .2) (c .choose-dot .ensures))
 
 same-length : tie.Need-same-length Inv-loop μ-loop
 same-length c = omega arith
@@ -67,7 +67,7 @@ pixels-spec =
     Inv-loop
     μ-loop
     loop-holds
-    light-requires
+    choose-dot-requires
     mul-out
     mul-out-2
     slice-write-out

@@ -11,10 +11,10 @@ use Rattle.ula.proofs.rows.lores_shades.Statement.{statement}
 use Rattle.ula.proofs.rows.lores_shades.Tie as tie
 
 abbrev Inv-loop : tie.InvT-loop
-Inv-loop row clear pal bank out₀ c₀ out c = (c ≤ 128) × (length out ≡ 128) × (take c out ≡ tab (loresShade row clear pal bank) c)
+Inv-loop row transparent pal bank out₀ c₀ out c = (c ≤ 128) × (length out ≡ 128) × (take c out ≡ tab (loresShade row transparent pal bank) c)
 
 abbrev μ-loop : tie.MeasureT-loop
-μ-loop row clear pal bank out₀ c₀ out c = 128 - c
+μ-loop row transparent pal bank out₀ c₀ out c = 128 - c
 
 loop-holds : tie.Need-loop-holds Inv-loop μ-loop
 loop-holds c = (search needs, search needs, tab-none _)
@@ -22,11 +22,11 @@ loop-holds c = (search needs, search needs, tab-none _)
 lores-address-requires : tie.Need-lores-address-requires Inv-loop μ-loop
 lores-address-requires c κs = search needs
 
-shared-slice-read-wide : tie.Need-shared-slice-read-wide Inv-loop μ-loop
-shared-slice-read-wide c = search needs
+shared-slice-read-usize-of : tie.Need-shared-slice-read-usize-of Inv-loop μ-loop
+shared-slice-read-usize-of c = search needs
 
-wide-requires : tie.Need-wide-requires Inv-loop μ-loop
-wide-requires c κs = search needs
+usize-of-requires : tie.Need-usize-of-requires Inv-loop μ-loop
+usize-of-requires c κs = search needs
 
 mul-show : tie.Need-mul-show Inv-loop μ-loop
 mul-show c = search needs
@@ -68,8 +68,8 @@ lores-shades-spec =
     μ-loop
     loop-holds
     lores-address-requires
-    shared-slice-read-wide
-    wide-requires
+    shared-slice-read-usize-of
+    usize-of-requires
     mul-show
     element-copy-out-show
     show-requires

@@ -1,6 +1,6 @@
 -- The row of the mode that the place names.
-use Rattle.ula.proofs.Fills.{wide-dots}
-use Rattle.ula.proofs.Shows.{shows-lores, shows-wide, shows-pixels}
+use Rattle.ula.proofs.Fills.{hires-dots}
+use Rattle.ula.proofs.Shows.{shows-lores, shows-hires, shows-pixels}
 use mathlib.Core.Path.{sym, _∙_}
 use borrow.Author.Needs.{needs}
 use Rattle.ula.proofs.rows.mode_row.Statement.{statement}
@@ -12,14 +12,14 @@ is-lores-requires c κs = search needs
 lores-row-requires : tie.Need-lores-row-requires
 lores-row-requires c κs = search needs
 
-is-wide-requires : tie.Need-is-wide-requires
-is-wide-requires c κs = search needs
+is-hires-requires : tie.Need-is-hires-requires
+is-hires-requires c κs = search needs
 
 bit-dots-requires : tie.Need-bit-dots-requires
 bit-dots-requires c κs = search needs
 
-wide-row-requires : tie.Need-wide-row-requires
-wide-row-requires c κs = search needs
+hires-row-requires : tie.Need-hires-row-requires
+hires-row-requires c κs = search needs
 
 pixel-row-requires : tie.Need-pixel-row-requires
 pixel-row-requires c κs = search needs
@@ -38,8 +38,8 @@ returns-2 : tie.Need-returns-2
 returns-2 c = let d = c .before .before .before .before in
     let w = d .before in
     let b = w .before .before in
-    c .before .before .wide-row .ensures ∙ wide-dots _ _ _ _ _ _ _ (d .bit-dots .ensures .0) (d .bit-dots .ensures .1)
-    ∙ shows-wide _ _ _ _ _ (sym (b .before .is-lores .ensures) ∙ b .if1 .left) (sym (w .before .is-wide .ensures) ∙ w .if2 .taken)
+    c .before .before .hires-row .ensures ∙ hires-dots _ _ _ _ _ _ _ (d .bit-dots .ensures .0) (d .bit-dots .ensures .1)
+    ∙ shows-hires _ _ _ _ _ (sym (b .before .is-lores .ensures) ∙ b .if1 .left) (sym (w .before .is-hires .ensures) ∙ w .if2 .taken)
 
 same-length-3 : tie.Need-same-length-3
 same-length-3 c = search needs
@@ -47,7 +47,7 @@ same-length-3 c = search needs
 returns-3 : tie.Need-returns-3
 returns-3 c = let w = c .before .before .before .before in
     let b = w .before .before in
-    c .before .before .pixel-row .ensures ∙ shows-pixels _ _ _ _ _ (sym (b .before .is-lores .ensures) ∙ b .if1 .left) (sym (w .before .is-wide .ensures) ∙ w .if2 .left)
+    c .before .before .pixel-row .ensures ∙ shows-pixels _ _ _ _ _ (sym (b .before .is-lores .ensures) ∙ b .if1 .left) (sym (w .before .is-hires .ensures) ∙ w .if2 .left)
 
 pub mode-row-spec : {M : Type 1} → statement M
 mode-row-spec =
@@ -55,9 +55,9 @@ mode-row-spec =
     (tie.spec
     is-lores-requires
     lores-row-requires
-    is-wide-requires
+    is-hires-requires
     bit-dots-requires
-    wide-row-requires
+    hires-row-requires
     pixel-row-requires
     same-length
     returns

@@ -1,0 +1,13 @@
+-- `set` keeps the state of what a write answers.
+use borrow.Author.Needs.{needs}
+use Rattle.example_screen.proofs.registers_set.set.Statement.{statement}
+use Rattle.example_screen.proofs.registers_set.set.Tie as tie
+
+write-register-requires : tie.Need-write-register-requires
+write-register-requires c κs = search needs
+
+returns : tie.Need-returns
+returns c = rw (c .before .write-register .ensures)
+
+pub set-spec : {M : Type 1} → statement M
+set-spec = tie.close (tie.spec write-register-requires returns)

@@ -1,0 +1,84 @@
+// The state of the sample, from reset by register writes.
+ghost use mathlib.Core.Path.{_≡_};
+ghost use Prim.Native.Nat.{_<_};
+ghost use Rattle.example_screen.specs.Written.{put, zxColour, ulaPainted, tilePainted, tilemapSet, sampleState};
+use state::State;
+
+fn set(s: State, number: u8, value: u8) -> State
+    ensures { λ r. ⌜ r ≡ put s number value ⌝ }
+{
+    let a = registers::write_register(s, number, value);
+    a.state
+}
+
+// The sixteen colours of a Spectrum, as eight-bit colours.
+const COLOURS: [u8; 16] = [
+    0x00,
+    0x02,
+    0xA0,
+    0xA2,
+    0x14,
+    0x16,
+    0xB4,
+    0xB6,
+    0x00,
+    0x03,
+    0xE0,
+    0xE3,
+    0x1C,
+    0x1F,
+    0xFC,
+    0xFF,
+];
+
+fn zx_colour(i: u8) -> u8
+    ensures { λ r. ⌜ r ≡ zxColour i ⌝ }
+{
+    let k = (i % 16) as usize;
+    COLOURS[k]
+}
+
+// Inks and papers, plain and bright, at indices 0 to 31.
+fn paint_ula(s: State) -> State
+    ensures { λ r. ⌜ r ≡ ulaPainted s 32 ⌝ }
+{
+    let mut t = s;
+    for i in 0..32 {
+        t = set(t, 0x41, zx_colour(i));
+    }
+    t
+}
+
+// The letter's colour and its spot's, white, for each of eight palette offsets.
+fn paint_tiles(s: State) -> State
+    ensures { λ r. ⌜ r ≡ tilePainted s 8 ⌝ }
+{
+    let mut t = s;
+    for i in 0..8 {
+        let a = set(t, 0x40, i * 16 + 1);
+        let b = set(a, 0x41, zx_colour(i % 7 + 9));
+        t = set(b, 0x41, 0xFF);
+    }
+    t
+}
+
+// 40 columns, two bytes an entry, the definitions from 4,096.
+fn set_tilemap(s: State) -> State
+    ensures { λ r. ⌜ r ≡ tilemapSet s ⌝ }
+{
+    let a = set(s, 0x6B, 0x80);
+    let b = set(a, 0x6E, 0);
+    set(b, 0x6F, 16)
+}
+
+// Bright magenta is $E3, the transparent colour of a reset, so $14 is set to a colour that is not shown.
+pub fn sample_state() -> State
+    ensures { λ r. ⌜ r ≡ sampleState ⌝ }
+{
+    let a = set(state::reset(), 0x14, 1);
+    let b = paint_ula(a);
+    let c = paint_tiles(set(b, 0x43, 0x30));
+    let d = set_tilemap(c);
+    let e = registers::write_port(d, 0xFE, 1);
+    e.state
+}

@@ -1,0 +1,65 @@
+-- The eight turns: one after another is a turn, and any turn is any other after some turn, by one test each that is computed
+-- over the flag set; and none leaves the tile.
+use mathlib.Core.Path.{_≡_, refl}
+use mathlib.Core.Bool.{Bool, true, false, cond, not}
+use Prim.Native.Nat.{ℕ, _/_, _%_, _<_}
+use native.Mathlib.Omega.{arith}
+use lib.Dec.{eqb}
+use borrow.Author.Tests.{eqb-true}
+use Rattle.lists.specs.Search.{least, some, all}
+use Rattle.lists.proofs.Search.{all-at, some-at, and-left, and-right}
+use Rattle.tilemap.specs.Index.{columnOf, rowOf, mirrored}
+use Rattle.pack_classes.specs.Claims.{After}
+
+-- at (x, y), t after u is s
+after-at : ℕ → ℕ → ℕ → ℕ → ℕ → Bool
+after-at t u s x y =
+    cond (eqb (columnOf t (columnOf u x y) (rowOf u x y)) (columnOf s x y)) (eqb (rowOf t (columnOf u x y) (rowOf u x y)) (rowOf s x y)) false
+
+after : ℕ → ℕ → ℕ → Bool
+after t u s = all (λ x. all (λ y. after-at t u s x y) 8) 8
+
+after-is : (t u s : ℕ) → after t u s ≡ true → After t u s
+unfolding after after-at
+after-is t u s e =
+    record {
+      columns = λ x y h k. eqb-true _ _ (and-left _ _ (all-at _ 8 (all-at _ 8 e x h) y k));
+      rows = λ x y h k. eqb-true _ _ (and-right (eqb (columnOf t (columnOf u x y) (rowOf u x y)) (columnOf s x y)) _ (all-at _ 8 (all-at _ 8 e x h) y k));
+    }
+
+composed-test : all (λ t. all (λ u. some (after t u) 8) 8) 8 ≡ true
+unfolding all least after after-at columnOf rowOf
+composed-test = refl
+
+-- one turn after another is a turn
+pub composed : (t u : ℕ) → t < 8 → u < 8 → (s : ℕ) × (s < 8) × After t u s
+composed t u h k =
+    let w = some-at (after t u) 8 (all-at (λ u. some (after t u) 8) 8 (all-at (λ t. all (λ u. some (after t u) 8) 8) 8 composed-test t h) u k) in
+    (w .0, w .1, after-is t u (w .0) (w .2))
+
+divided-test : all (λ t. all (λ u. some (λ s. after t s u) 8) 8) 8 ≡ true
+unfolding all least after after-at columnOf rowOf
+divided-test = refl
+
+-- each turn is any other after some turn
+pub divided : (t u : ℕ) → t < 8 → u < 8 → (s : ℕ) × (s < 8) × After t s u
+divided t u h k =
+    let w = some-at (λ s. after t s u) 8 (all-at (λ u. some (λ s. after t s u) 8) 8 (all-at (λ t. all (λ u. some (λ s. after t s u) 8) 8) 8 divided-test t h) u k) in
+    (w .0, w .1, after-is t (w .0) u (w .2))
+
+pub mirrored-small : (b : Bool) (v : ℕ) → v < 8 → mirrored b v < 8
+mirrored-small true v h = omega arith
+mirrored-small false v h = h
+
+cond-small : (b : Bool) (u v : ℕ) → u < 8 → v < 8 → cond b u v < 8
+cond-small true u v h k = h
+cond-small false u v h k = k
+
+-- a turn stays within the tile
+pub column-small : (t x y : ℕ) → x < 8 → y < 8 → columnOf t x y < 8
+unfolding columnOf
+column-small t x y h k = cond-small (eqb (t % 2) 1) _ _ (mirrored-small (eqb (t / 2 % 2) 1) y k) (mirrored-small (not (eqb (t / 4 % 2) (t % 2))) x h)
+
+pub row-small : (t x y : ℕ) → x < 8 → y < 8 → rowOf t x y < 8
+unfolding rowOf
+row-small t x y h k = cond-small (eqb (t % 2) 1) _ _ (mirrored-small (not (eqb (t / 4 % 2) (t % 2))) x h) (mirrored-small (eqb (t / 2 % 2) 1) y k)

@@ -1,0 +1,117 @@
+// A state's bytes put into a record: the registers, then the tables, each part right after the one before it.
+ghost use mathlib.Core.Path.{_≡_};
+ghost use Prim.Native.Nat.{_+_, _*_, _≤_};
+ghost use lib.ListN.{length, take, drop};
+ghost use Rattle.lists.specs.Placed.{placed};
+ghost use Rattle.record_layout.specs.Fields.{pair, rowBytes, flagByte};
+ghost use Rattle.record_layout.specs.Parts.{bytesOf};
+ghost use Rattle.record_layout.specs.Layout.{layout};
+ghost use Rattle.record_layout.specs.Bounds.{Sized};
+ghost use Rattle.record_layout.specs.Record.{recordLength, recordOf};
+use state::State;
+
+fn put_bytes(target: &mut [u8], at: usize, src: &[u8])
+    requires { ⌜ at + length (now src) ≤ length (now target) ⌝ }
+    ensures { λ _. ⌜ now (target .exit) ≡ placed (now (target .entry)) at (now (src .entry)) ⌝ }
+{
+    let mut i = 0;
+    while i < src.len() {
+        target[at + i] = src[i];
+        i += 1;
+    }
+}
+
+// Two bytes a colour, high first.
+fn put_colours(target: &mut [u8], at: usize, src: &[u16])
+    requires { ⌜ at + 2 * length (now src) ≤ length (now target) ⌝ }
+    ensures { λ _. ⌜ now (target .exit) ≡ placed (now (target .entry)) at (rowBytes pair (now (src .entry))) ⌝ }
+{
+    let mut i = 0;
+    while i < src.len() {
+        let c = src[i];
+        let o = at + 2 * i;
+        target[o] = (c / 256) as u8;
+        target[o + 1] = (c % 256) as u8;
+        i += 1;
+    }
+}
+
+// The number of bytes following, the version, and the 18 registers before the clips.
+fn before_clips(s: State) -> [u8; 21]
+    ensures { λ r. ⌜ r ≡ take 21 (recordOf s) ⌝ }
+{
+    [
+        8,
+        100,
+        1,
+        s.ula.transparent,
+        s.ula.layers,
+        s.ula.peripheral,
+        s.palette.control,
+        s.palette.index,
+        s.palette.mask,
+        s.ula.fallback,
+        s.tiles.transparent,
+        s.ula.control,
+        s.tiles.control,
+        s.tiles.attribute,
+        s.tiles.xhigh,
+        s.tiles.xlow,
+        s.tiles.y,
+        s.tiles.map,
+        s.tiles.definitions,
+        s.ula.x,
+        s.ula.y,
+    ]
+}
+
+fn flag_byte(flag: bool) -> u8
+    ensures { λ r. ⌜ r ≡ flagByte flag ⌝ }
+{
+    if flag { 1 } else { 0 }
+}
+
+// The nine parts after the clips.
+fn after_clips(s: State) -> [u8; 9]
+    ensures { λ r. ⌜ r ≡ bytesOf (take 9 (drop 20 layout)) s ⌝ }
+{
+    let held = flag_byte(s.palette.held);
+    let plus = flag_byte(s.ports.plus);
+    [
+        s.turns.ula,
+        s.turns.tiles,
+        held,
+        s.palette.half,
+        s.ports.border,
+        s.ports.timex,
+        s.ports.select,
+        plus,
+        s.frame,
+    ]
+}
+
+// The caller has judged the target's length. The arrays' lengths, which every state has, are asked for so that one
+// proof reads them off the type.
+pub fn put_registers(s: State, target: &mut [u8])
+    requires { ⌜ (length (now target) ≡ recordLength) × Sized s ⌝ }
+    ensures { λ _. ⌜ now (target .exit) ≡ placed (now (target .entry)) 0 (take 38 (recordOf s)) ⌝ }
+{
+    let first = before_clips(s);
+    let last = after_clips(s);
+    put_bytes(target, 0, &first);
+    put_bytes(target, 21, &s.ulaclip);
+    put_bytes(target, 25, &s.tileclip);
+    put_bytes(target, 29, &last);
+}
+
+// As `put_registers`, from the place where that ends.
+pub fn put_tables(s: State, target: &mut [u8])
+    requires { ⌜ (length (now target) ≡ recordLength) × Sized s ⌝ }
+    ensures { λ _. ⌜ now (target .exit) ≡ placed (now (target .entry)) 38 (drop 38 (recordOf s)) ⌝ }
+{
+    put_bytes(target, 38, &s.plus);
+    put_colours(target, 102, &s.ulafirst);
+    put_colours(target, 614, &s.ulasecond);
+    put_colours(target, 1126, &s.tilefirst);
+    put_colours(target, 1638, &s.tilesecond);
+}

@@ -1,0 +1,66 @@
+// What a write and a read answer: done, or refused with everything as it was.
+ghost use mathlib.Core.Path.{_≡_};
+ghost use Rattle.reply.specs.declared.Reply.the-variants.{NoRegister};
+ghost use Rattle.state.specs.Answer.{done, refused};
+ghost use Rattle.register_answers.specs.Answers.{within, given, unread};
+use reply::Reply;
+use state::Answer;
+use state::State;
+
+// What a read answers: its reply and the byte, 0 where it is refused.
+pub struct Reading {
+    pub reply: Reply,
+    pub value: u8,
+}
+
+pub fn accept(s: State) -> Answer
+    ensures { λ r. ⌜ r ≡ done s ⌝ }
+{
+    Answer {
+        reply: Reply::Done,
+        state: s,
+    }
+}
+
+// The changed state where the value is within its bounds, else the state as it was.
+pub fn bounded(ok: bool, changed: State, s: State) -> Answer
+    ensures { λ r. ⌜ r ≡ within ok changed s ⌝ }
+{
+    if ok {
+        accept(changed)
+    } else {
+        Answer {
+            reply: Reply::OutOfBounds,
+            state: s,
+        }
+    }
+}
+
+pub fn give(value: u8) -> Reading
+    ensures { λ r. ⌜ r ≡ given value ⌝ }
+{
+    Reading {
+        reply: Reply::Done,
+        value,
+    }
+}
+
+// Reply 9 to a write.
+pub fn no_write(s: State) -> Answer
+    ensures { λ r. ⌜ r ≡ refused NoRegister s ⌝ }
+{
+    Answer {
+        reply: Reply::NoRegister,
+        state: s,
+    }
+}
+
+// Reply 9 to a read.
+pub fn no_read() -> Reading
+    ensures { λ r. ⌜ r ≡ unread NoRegister ⌝ }
+{
+    Reading {
+        reply: Reply::NoRegister,
+        value: 0,
+    }
+}

@@ -1,0 +1,16 @@
+-- `put_colour` puts the moved index over the stored colour.
+use borrow.Author.Needs.{needs}
+use Rattle.register_palettes.proofs.colours.put_colour.Statement.{statement}
+use Rattle.register_palettes.proofs.colours.put_colour.Tie as tie
+
+next-index-requires : tie.Need-next-index-requires
+next-index-requires c κs = search needs
+
+store-colour-requires : tie.Need-store-colour-requires
+store-colour-requires c κs = search needs
+
+returns : tie.Need-returns
+returns c = rw (c .store-colour .ensures, c .before .before .next-index .ensures)
+
+pub put-colour-spec : {M : Type 1} → statement M
+put-colour-spec = tie.close (tie.spec next-index-requires store-colour-requires returns)

@@ -1,0 +1,16 @@
+-- `write_mask` judges by what `is_mask` answers.
+use borrow.Author.Needs.{needs}
+use Rattle.register_palettes.proofs.control.write_mask.Statement.{statement}
+use Rattle.register_palettes.proofs.control.write_mask.Tie as tie
+
+is-mask-requires : tie.Need-is-mask-requires
+is-mask-requires c κs = search needs
+
+bounded-requires : tie.Need-bounded-requires
+bounded-requires c κs = search needs
+
+returns : tie.Need-returns
+returns c = rw (c .before .before .is-mask .ensures) at (c .bounded .ensures)
+
+pub write-mask-spec : {M : Type 1} → statement M
+write-mask-spec = tie.close (tie.spec is-mask-requires bounded-requires returns)

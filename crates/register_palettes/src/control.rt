@@ -1,0 +1,30 @@
+// The ink mask and the control register.
+ghost use mathlib.Core.Path.{_≡_};
+ghost use Rattle.register_palettes.specs.Palettes.{maskWritten, controlWritten};
+use register_answers::bounded;
+use state::Answer;
+use state::State;
+use state::is_choice;
+use state::is_mask;
+
+// $42
+pub fn write_mask(s: State, value: u8) -> Answer
+    ensures { λ r. ⌜ r ≡ maskWritten s value ⌝ }
+{
+    let ok = is_mask(value);
+    let mut t = s;
+    t.palette.mask = value;
+    bounded(ok, t, s)
+}
+
+// $43
+pub fn write_control(s: State, value: u8) -> Answer
+    ensures { λ r. ⌜ r ≡ controlWritten s value ⌝ }
+{
+    let ok = is_choice(value);
+    let mut t = s;
+    t.palette.control = value;
+    t.palette.held = false;
+    t.palette.half = 0;
+    bounded(ok, t, s)
+}

@@ -1,0 +1,63 @@
+-- The state and its registers: "Ports".
+use Prim.Native.Nat.{ℕ, _%_}
+use mathlib.Core.List.{List, [], _∷_}
+use mathlib.Core.Bool.{Bool, cond}
+use lib.ListN.{getD, set}
+use lib.Dec.{leb, ltb, eqb}
+use Rattle.reply.specs.declared.Reply.the-variants.{NoRegister}
+use Rattle.state.specs.declared.State.{State}
+use Rattle.state.specs.declared.Ports.{Ports}
+use Rattle.state.specs.declared.Answer.{Answer}
+use Rattle.state.specs.Answer.{done}
+use Rattle.state.specs.Bits.{timexOn}
+use Rattle.state.specs.With.{withPorts, withPlus}
+use Rattle.register_answers.specs.declared.Reading.{Reading}
+use Rattle.register_answers.specs.Answers.{within, given, unread}
+use Rattle.register_answers.specs.Rows.{WriteRow, writes, writeBy, ReadRow, reads, readBy}
+
+-- $FE: the low three bits are the border
+abbrev pub borderWritten : State → ℕ → Answer
+borderWritten s v = let p = s .ports in done (withPorts s (record { border = v % 8; timex = p .timex; select = p .select; plus = p .plus }))
+
+-- $FF
+abbrev pub timexWritten : State → ℕ → Answer
+timexWritten s v = let p = s .ports in done (withPorts s (record { border = p .border; timex = v; select = p .select; plus = p .plus }))
+
+-- $BF3B: below 128
+abbrev pub selectWritten : State → ℕ → Answer
+selectWritten s v = let p = s .ports in within (ltb v 128) (withPorts s (record { border = p .border; timex = p .timex; select = v; plus = p .plus })) s
+
+-- $BF3B: 64 and up is the mode group
+abbrev pub modeGroup : State → Bool
+modeGroup s = leb 64 (s .ports .select)
+
+-- $FF3B in the mode group: bit 0 as ULAplus on
+abbrev pub modeWritten : State → ℕ → Answer
+modeWritten s v = let p = s .ports in done (withPorts s (record { border = p .border; timex = p .timex; select = p .select; plus = eqb (v % 2) 1 }))
+
+-- $FF3B: a ULAplus register, or the mode
+abbrev pub plusWritten : State → ℕ → Answer
+plusWritten s v = cond (modeGroup s) (modeWritten s v) (done (withPlus s (set (s .plus) (s .ports .select) v)))
+
+-- $FF: readable while $08 bit 2 is set
+abbrev pub timexRead : State → Reading
+timexRead s = cond (timexOn (s .ula)) (given (s .ports .timex)) (unread NoRegister)
+
+-- $FF3B: a ULAplus register, or ULAplus on; other mode bits read as 0
+abbrev pub plusRead : State → Reading
+plusRead s = cond (modeGroup s) (given (cond (s .ports .plus) 1 0)) (given (getD (s .plus) (s .ports .select) 0))
+
+abbrev pub portWrites : List WriteRow
+portWrites =
+    writes 0x00FE borderWritten ∷
+    writes 0x00FF timexWritten ∷
+    writes 0xBF3B selectWritten ∷
+    writes 0xFF3B plusWritten ∷
+    []
+
+-- $FE and $BF3B are write only
+abbrev pub portReads : List ReadRow
+portReads =
+    reads 0x00FF timexRead ∷
+    reads 0xFF3B plusRead ∷
+    []

@@ -1,0 +1,69 @@
+-- The state and its registers: what a write does to each register that is stored, in the order of their numbers.
+use Prim.Native.Nat.{ℕ, _/_, _%_}
+use lib.Dec.{leb, eqb}
+use Rattle.state.specs.declared.State.{State}
+use Rattle.state.specs.declared.Answer.{Answer}
+use Rattle.state.specs.Answer.{done}
+use Rattle.state.specs.With.{withUla, withTiles}
+use Rattle.register_answers.specs.Answers.{within}
+use Rattle.register_stored.specs.Fields.{ulaWithTransparent, ulaWithLayers, ulaWithPeripheral, ulaWithFallback, ulaWithControl, ulaWithX, ulaWithY, tilesWithTransparent, tilesWithControl, tilesWithAttribute, tilesWithXHigh, tilesWithXLow, tilesWithY, tilesWithMap, tilesWithDefinitions}
+
+-- $08: bit 2 allows Timex modes
+abbrev pub peripheralWritten : State → ℕ → Answer
+peripheralWritten s v = done (withUla s (ulaWithPeripheral (s .ula) v))
+
+-- $14: transparent colour
+abbrev pub transparentWritten : State → ℕ → Answer
+transparentWritten s v = done (withUla s (ulaWithTransparent (s .ula) v))
+
+-- $15: bit 7 LoRes
+abbrev pub layersWritten : State → ℕ → Answer
+layersWritten s v = done (withUla s (ulaWithLayers (s .ula) v))
+
+-- $2F: tilemap X, at most 3
+abbrev pub tileXHighWritten : State → ℕ → Answer
+tileXHighWritten s v = within (leb v 3) (withTiles s (tilesWithXHigh (s .tiles) v)) s
+
+-- $30: tilemap X
+abbrev pub tileXLowWritten : State → ℕ → Answer
+tileXLowWritten s v = done (withTiles s (tilesWithXLow (s .tiles) v))
+
+-- $31: tilemap Y, 0 to 255
+abbrev pub tileYWritten : State → ℕ → Answer
+tileYWritten s v = done (withTiles s (tilesWithY (s .tiles) v))
+
+-- $32: ULA and LoRes X offset
+abbrev pub ulaXWritten : State → ℕ → Answer
+ulaXWritten s v = done (withUla s (ulaWithX (s .ula) v))
+
+-- $33: ULA and LoRes Y offset, at most 191
+abbrev pub ulaYWritten : State → ℕ → Answer
+ulaYWritten s v = within (leb v 191) (withUla s (ulaWithY (s .ula) v)) s
+
+-- $4A: fallback
+abbrev pub fallbackWritten : State → ℕ → Answer
+fallbackWritten s v = done (withUla s (ulaWithFallback (s .ula) v))
+
+-- $4C: tile transparency, at most 15
+abbrev pub tileTransparentWritten : State → ℕ → Answer
+tileTransparentWritten s v = within (leb v 15) (withTiles s (tilesWithTransparent (s .tiles) v)) s
+
+-- $68: bits 5-1 zero
+abbrev pub ulaControlWritten : State → ℕ → Answer
+ulaControlWritten s v = within (eqb (v / 2 % 32) 0) (withUla s (ulaWithControl (s .ula) v)) s
+
+-- $6B: bits 3-0 zero
+abbrev pub tileControlWritten : State → ℕ → Answer
+tileControlWritten s v = within (eqb (v % 16) 0) (withTiles s (tilesWithControl (s .tiles) v)) s
+
+-- $6C: the attribute of one-byte entries
+abbrev pub tileAttributeWritten : State → ℕ → Answer
+tileAttributeWritten s v = done (withTiles s (tilesWithAttribute (s .tiles) v))
+
+-- $6E: the map, a write's bits 7-6 dropped
+abbrev pub mapWritten : State → ℕ → Answer
+mapWritten s v = done (withTiles s (tilesWithMap (s .tiles) (v % 64)))
+
+-- $6F: the definitions, a write's bits 7-6 dropped
+abbrev pub definitionsWritten : State → ℕ → Answer
+definitionsWritten s v = done (withTiles s (tilesWithDefinitions (s .tiles) (v % 64)))

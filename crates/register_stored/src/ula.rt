@@ -1,0 +1,72 @@
+// Writes to the ULA's registers.
+ghost use mathlib.Core.Path.{_≡_};
+ghost use Rattle.register_stored.specs.Plain.{peripheralWritten, transparentWritten, layersWritten, ulaXWritten, ulaYWritten, fallbackWritten, ulaControlWritten};
+use register_answers::accept;
+use register_answers::bounded;
+use state::Answer;
+use state::State;
+
+// $08
+pub fn write_peripheral(s: State, value: u8) -> Answer
+    ensures { λ r. ⌜ r ≡ peripheralWritten s value ⌝ }
+{
+    let mut t = s;
+    t.ula.peripheral = value;
+    accept(t)
+}
+
+// $14
+pub fn write_transparent(s: State, value: u8) -> Answer
+    ensures { λ r. ⌜ r ≡ transparentWritten s value ⌝ }
+{
+    let mut t = s;
+    t.ula.transparent = value;
+    accept(t)
+}
+
+// $15
+pub fn write_layers(s: State, value: u8) -> Answer
+    ensures { λ r. ⌜ r ≡ layersWritten s value ⌝ }
+{
+    let mut t = s;
+    t.ula.layers = value;
+    accept(t)
+}
+
+// $32
+pub fn write_ula_x(s: State, value: u8) -> Answer
+    ensures { λ r. ⌜ r ≡ ulaXWritten s value ⌝ }
+{
+    let mut t = s;
+    t.ula.x = value;
+    accept(t)
+}
+
+// $33
+pub fn write_ula_y(s: State, value: u8) -> Answer
+    ensures { λ r. ⌜ r ≡ ulaYWritten s value ⌝ }
+{
+    let ok = value <= 191;
+    let mut t = s;
+    t.ula.y = value;
+    bounded(ok, t, s)
+}
+
+// $4A
+pub fn write_fallback(s: State, value: u8) -> Answer
+    ensures { λ r. ⌜ r ≡ fallbackWritten s value ⌝ }
+{
+    let mut t = s;
+    t.ula.fallback = value;
+    accept(t)
+}
+
+// $68
+pub fn write_ula_control(s: State, value: u8) -> Answer
+    ensures { λ r. ⌜ r ≡ ulaControlWritten s value ⌝ }
+{
+    let ok = value / 2 % 32 == 0;
+    let mut t = s;
+    t.ula.control = value;
+    bounded(ok, t, s)
+}
