@@ -2,38 +2,37 @@
 use Prim.Native.Nat.{ℕ, _+_, _/_, _%_, _≤_, _<_}
 use mathlib.Core.Path.{_≡_, refl, sym, ap, _∙_}
 use mathlib.Core.List.{List, _++_}
-use mathlib.Core.Bool.{Bool, true, false, cond, _||_}
+use mathlib.Core.Bool.{Bool, true, false, cond, not, _||_}
 use native.Mathlib.Omega.{arith}
 use lib.ListN.{getD, set, length}
 use lib.Seq.{getD-set-other}
 use lib.Dec.{eqb}
 use Rattle.lists.specs.Tab.{tab}
 use Rattle.lists.proofs.Tab.{tab-ext, getD-tab}
-use Rattle.lists.proofs.Cond.{if-true, if-false}
 use Rattle.colour.specs.Bytes.{widened}
 use Rattle.state.specs.Bits.{ulaOn, tileSecondShown}
 use Rattle.state.specs.Lawful.{allColours}
 use Rattle.state.specs.declared.State.{State}
 use Rattle.state.specs.declared.Ula.{Ula}
 use Rattle.state.specs.declared.Tiles.{Tiles}
-use Rattle.surface.specs.Dots.{clipped, topDot}
+use Rattle.surface.specs.Dots.{inside, clipped, topDot}
 use Rattle.surface.specs.declared.lines.LineNumber.{LineNumber}
 use Rattle.ula.specs.Display.{ulaDot}
 use Rattle.ula.specs.Bounds.{shownState}
 use Rattle.ula.proofs.Clips.{entries}
 use Rattle.ula.proofs.Parts.{same-dots}
-use Rattle.tilemap.specs.Index.{widthOf, txOf, tyOf, cellOf, entryAt, entryPixel}
-use Rattle.tilemap.specs.Dots.{codeOf, codeAt, acrossOf, tileDot}
-use Rattle.tilemap.specs.Shades.{shadeOf, shadeAt, tileRow}
+use Rattle.tilemap.specs.Index.{widthOf, tileEntry, tileIndex, ulaAbove}
+use Rattle.tilemap.specs.Dots.{TileDot, clear, shows, acrossOf, tileDot}
+use Rattle.tilemap.specs.Shades.{tileRow}
 use Rattle.tilemap.specs.Bounds.{SetupBounds}
 use Rattle.tilemap.specs.Setup.{windowOf, setupOf}
 use Rattle.tilemap.specs.declared.rule.TileSetup.{TileSetup}
 use Rattle.tilemap.specs.declared.setup.Window.{Window}
 use Rattle.tilemap.proofs.Rows.{row-at}
-use Rattle.tilemap.proofs.Within.{pixel-below, high-below}
+use Rattle.tilemap.proofs.Within.{index-below}
 use Rattle.line.specs.Compose.{tileColour, stencilled, composed}
 use Rattle.line.specs.Shades.{shadesOf, shadeOver}
-use Rattle.line.proofs.Shaded.{shade-composed, shade-clipped}
+use Rattle.line.proofs.Shaded.{shade-composed}
 use Rattle.line.specs.Lines.{tilePalette, stencilOn, tileDotOf, composedDot, composedLine, finished, lineDot, drawnLine}
 
 -- what a row still holds after a store below it
@@ -57,7 +56,7 @@ composed-row stencil row old dots cut out columns80 skew left right d c e =
     ∙ ap (clipped (k / 2) left right) (ap (λ (l : List ℕ). getD l k 0) d ∙ getD-tab (λ (j : ℕ). getD row (skew + acrossOf columns80 j) 0) 640 k h)))
 
 -- where no tile shows, the ULA's dot stays, and nothing is left of it under a stencil
-bare : (pal : List ℕ) (u : ℕ) → u ≡ composed false pal u 512
+bare : (pal : List ℕ) (u : ℕ) → u ≡ composed false pal u clear
 unfolding composed tileColour topDot
 bare pal u = refl
 
@@ -65,7 +64,7 @@ none-left : (b : Bool) (x : ℕ) → 512 ≡ cond (b || true) 512 x
 none-left true x = refl
 none-left false x = refl
 
-stencilled-bare : (pal : List ℕ) (u : ℕ) → 512 ≡ composed true pal u 512
+stencilled-bare : (pal : List ℕ) (u : ℕ) → 512 ≡ composed true pal u clear
 unfolding composed tileColour stencilled
 stencilled-bare pal u = none-left (eqb u 512) _
 
@@ -77,31 +76,30 @@ module _ (t : TileSetup) (w : Window) (transparent : ℕ) (stencil : Bool) (pal 
       → shades ≡ shadesOf pal transparent → row ≡ tileRow t shades bank y ++ rest
       → tab (λ (k : ℕ). shadeOver stencil (getD out k 0) (clipped (k / 2) (w .left) (w .right) (getD row (t .x % 8 + acrossOf (t .columns80) k) 0))) 640
       ≡ tab laid 640
-  unfolding tileDot shadeAt codeAt
+  unfolding tileDot ulaAbove
   layered-on row rest shades o l a f s q =
       let e : row ≡ tileRow t (shadesOf pal transparent) bank y ++ rest = q ∙ ap (λ (v : List ℕ). tileRow t v bank y ++ rest) s in
       tab-ext _ _ 640 (λ k h.
       let u = getD out k 0 in
       let x = acrossOf (t .columns80) k in
-      let cell = cellOf (t .columns80) (txOf t x) (tyOf t y) in
-      let d = entryAt t bank cell in
-      let pixel = entryPixel t bank d (txOf t x % 8) (tyOf t y % 8) in
+      let index = tileIndex t bank x y in
+      let mark = tileEntry t bank x y .high % 2 in
+      let dot : Bool → TileDot = λ on. cond (not on || eqb (index % 16) transparent || not (inside (k / 2) (w .left) (w .right))) clear (shows index (eqb mark 1)) in
       ap (λ (v : ℕ). shadeOver stencil u (clipped (k / 2) (w .left) (w .right) v))
       (ap (λ (r : List ℕ). getD r (t .x % 8 + x) 0) e ∙ row-at t (shadesOf pal transparent) bank y rest x (across-within (t .columns80) k h))
-      ∙ shade-clipped stencil pal u (k / 2) (w .left) (w .right) (shadeOf (shadesOf pal transparent) (d .high) pixel) (codeOf transparent (d .high) pixel)
-      (shade-composed stencil pal u transparent (d .high) pixel a (high-below t bank cell l f) (pixel-below t bank d (txOf t x % 8) (tyOf t y % 8)))
-      ∙ ap (composed stencil pal u) (sym (if-true (w .on) _ _ o)))
+      ∙ shade-composed stencil pal u transparent (k / 2) (w .left) (w .right) index mark a (index-below t bank l f x y) (omega arith)
+      ∙ ap (λ (on : Bool). composed stencil pal u (dot on)) (sym o))
 
-  no-tile : w .on ≡ false → (k : ℕ) → 512 ≡ tileDot w t transparent bank y k
+  no-tile : w .on ≡ false → (k : ℕ) → clear ≡ tileDot w t transparent bank y k
   unfolding tileDot
-  no-tile o k = sym (if-false (w .on) _ _ o)
+  no-tile o k = rw o
 
   pub layered-gone : (n : ℕ) → n ≡ 640 → w .on ≡ false → stencil ≡ true → tab (λ (k : ℕ). 512) n ≡ tab laid 640
   layered-gone n e o s =
       ap (tab (λ (k : ℕ). 512)) e
       ∙ tab-ext _ _ 640 (λ k h.
       stencilled-bare pal (getD out k 0)
-      ∙ ap (λ (b : Bool). composed b pal (getD out k 0) 512) (sym s)
+      ∙ ap (λ (b : Bool). composed b pal (getD out k 0) clear) (sym s)
       ∙ ap (composed stencil pal (getD out k 0)) (no-tile o k))
 
   pub layered-bare : length out ≡ 640 → w .on ≡ false → stencil ≡ false → out ≡ tab laid 640
@@ -109,7 +107,7 @@ module _ (t : TileSetup) (w : Window) (transparent : ℕ) (stencil : Bool) (pal 
       entries out ∙ ap (tab (λ (k : ℕ). getD out k 0)) e
       ∙ tab-ext _ _ 640 (λ k h.
       bare pal (getD out k 0)
-      ∙ ap (λ (b : Bool). composed b pal (getD out k 0) 512) (sym s)
+      ∙ ap (λ (b : Bool). composed b pal (getD out k 0) clear) (sym s)
       ∙ ap (composed stencil pal (getD out k 0)) (no-tile o k))
 
 -- what the state says of the tilemap, put in its place

@@ -1,19 +1,17 @@
--- Shades: each is a colour or 512, and composing a shade is composing the code of the tile dot.
+-- Shades: each is a colour or 512, and composing a shade is composing the tile dot.
 use Prim.Native.Nat.{ℕ, zero, suc, _+_, _*_, _/_, _%_, _≤_, _<_}
 use mathlib.Core.Path.{_≡_, refl, sym, ap, _∙_}
 use mathlib.Core.List.{List, [], _∷_}
-use mathlib.Core.Bool.{Bool, true, false, cond}
+use mathlib.Core.Bool.{Bool, true, false, cond, not, _||_}
 use native.Mathlib.Omega.{arith}
 use lib.ListN.{getD}
 use lib.Dec.{eqb, leb}
-use borrow.Author.Tests.{leb-true, eqb-true, ne-eqb}
+use borrow.Author.Tests.{leb-true, eqb-true}
 use Rattle.lists.proofs.Cond.{left-true, right-true}
 use Rattle.lists.proofs.Tab.{getD-tab}
 use Rattle.state.specs.Lawful.{allColours}
 use Rattle.surface.specs.Dots.{inside, clipped, topDot}
-use Rattle.tilemap.specs.Index.{indexOf}
-use Rattle.tilemap.specs.Dots.{codeOf}
-use Rattle.tilemap.specs.Shades.{shadeFrom, shadeOf}
+use Rattle.tilemap.specs.Dots.{clear, shows}
 use Rattle.tilemap.specs.Bounds.{Shaded}
 use Rattle.line.specs.Compose.{tileColour, stencilled, composed}
 use Rattle.line.specs.Shades.{unlessTransparent, shadesOf, shadeOver}
@@ -58,8 +56,8 @@ module _ (stencil : Bool) (pal : List ℕ) (u : ℕ) where
   either true = under-none u
   either false = refl
 
-  -- the shade of a transparent pixel, marked or not
-  shade-clear : (h : ℕ) → h < 2 → shadeOver stencil u (512 + h * 1024) ≡ composed stencil pal u 512
+  -- the shade of a transparent dot, marked or not
+  shade-clear : (h : ℕ) → h < 2 → shadeOver stencil u (512 + h * 1024) ≡ composed stencil pal u clear
   unfolding shadeOver composed tileColour
   shade-clear h l =
       let t : (512 + h * 1024) % 1024 ≡ 512 = omega arith in
@@ -67,37 +65,26 @@ module _ (stencil : Bool) (pal : List ℕ) (u : ℕ) where
       rw (t, q) (ap (cond stencil (stencilled u 512)) (either (eqb h 1)))
 
   -- the shade of any other
-  shade-solid : (c i h : ℕ) → c ≤ 511 → i < 256 → h < 2 → c ≡ getD pal i 0 → shadeOver stencil u (c + h * 1024) ≡ composed stencil pal u (i + h * 256)
+  shade-solid : (i h : ℕ) → getD pal i 0 ≤ 511 → h < 2 → shadeOver stencil u (getD pal i 0 + h * 1024) ≡ composed stencil pal u (shows i (eqb h 1))
   unfolding shadeOver composed tileColour
-  shade-solid c i h lc li lh e =
-      let t : (c + h * 1024) % 1024 ≡ c = omega arith in
-      let q : (c + h * 1024) / 1024 ≡ h = omega arith in
-      let m : (i + h * 256) % 256 ≡ i = omega arith in
-      let d : (i + h * 256) / 256 ≡ h = omega arith in
-      rw (t, q, ne-eqb (i + h * 256) 512 (λ z. omega arith), m, d, e)
+  shade-solid i h lc lh =
+      let t : (getD pal i 0 + h * 1024) % 1024 ≡ getD pal i 0 = omega arith in
+      let q : (getD pal i 0 + h * 1024) / 1024 ≡ h = omega arith in
+      rw (t, q)
 
-  pub shade-composed : (transparent high pixel : ℕ) → allColours pal ≡ true → high < 256 → pixel < 16
-      → shadeOver stencil u (shadeOf (shadesOf pal transparent) high pixel) ≡ composed stencil pal u (codeOf transparent high pixel)
-  unfolding shadeFrom shadesOf codeOf
-  shade-composed transparent high pixel a lh lp =
-      let i = indexOf high pixel in
-      let l : i < 256 = omega arith in
-      let m : i % 16 ≡ pixel = omega arith in
-      ap (λ (v : ℕ). shadeOver stencil u (v + high % 2 * 1024))
-      (getD-tab (λ (j : ℕ). unlessTransparent transparent j (getD pal j 0)) 256 i l ∙ ap (λ (p : ℕ). cond (eqb p transparent) 512 (getD pal i 0)) m)
-      ∙ go i l (eqb pixel transparent)
+  -- within the clip and outside it, the pixel transparent or not
+  pub shade-composed : (transparent x left right i h : ℕ) → allColours pal ≡ true → i < 256 → h < 2
+      → shadeOver stencil u (clipped x left right (getD (shadesOf pal transparent) i 0 + h * 1024))
+      ≡ composed stencil pal u (cond (eqb (i % 16) transparent || not (inside x left right)) clear (shows i (eqb h 1)))
+  unfolding shadesOf clipped
+  shade-composed transparent x left right i h a li lh =
+      ap (λ (v : ℕ). shadeOver stencil u (cond (inside x left right) (v + h * 1024) 512))
+      (getD-tab (λ (j : ℕ). unlessTransparent transparent j (getD pal j 0)) 256 i li)
+      ∙ go (eqb (i % 16) transparent) (inside x left right)
     where
-      go : (i : ℕ) → i < 256 → (b : Bool)
-          → shadeOver stencil u (cond b 512 (getD pal i 0) + high % 2 * 1024) ≡ composed stencil pal u (cond b 512 (i + high % 2 * 256))
-      go i l true = shade-clear (high % 2) (omega arith)
-      go i l false = shade-solid (getD pal i 0) i (high % 2) (colour-at pal a i) l (omega arith) refl
-
-  -- outside the clip either is transparent
-  pub shade-clipped : (x left right v code : ℕ) → shadeOver stencil u v ≡ composed stencil pal u code
-      → shadeOver stencil u (clipped x left right v) ≡ composed stencil pal u (clipped x left right code)
-  unfolding clipped
-  shade-clipped x left right v code e = go (inside x left right)
-    where
-      go : (b : Bool) → shadeOver stencil u (cond b v 512) ≡ composed stencil pal u (cond b code 512)
-      go true = e
-      go false = shade-clear 0 (omega arith)
+      go : (b c : Bool)
+          → shadeOver stencil u (cond c (cond b 512 (getD pal i 0) + h * 1024) 512) ≡ composed stencil pal u (cond (b || not c) clear (shows i (eqb h 1)))
+      go true true = shade-clear h lh
+      go false true = shade-solid i h (colour-at pal a i) lh
+      go true false = shade-clear 0 (omega arith)
+      go false false = shade-clear 0 (omega arith)

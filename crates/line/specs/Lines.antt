@@ -12,7 +12,7 @@ use Rattle.state.specs.declared.Tiles.{Tiles}
 use Rattle.surface.specs.Dots.{topDot}
 use Rattle.surface.specs.declared.lines.LineNumber.{LineNumber}
 use Rattle.ula.specs.Display.{ulaDot}
-use Rattle.tilemap.specs.Dots.{tileDot}
+use Rattle.tilemap.specs.Dots.{TileDot, tileDot}
 use Rattle.tilemap.specs.Setup.{setupOf, windowOf}
 use Rattle.line.specs.Compose.{composed}
 
@@ -25,7 +25,7 @@ abbrev pub stencilOn : Ula → Tiles → Bool
 stencilOn u t = stencilSet u && ulaOn u && tilemapOn t
 
 -- dot k of a line of the tilemap
-unfoldable pub tileDotOf : State → List ℕ → LineNumber → ℕ → ℕ
+unfoldable pub tileDotOf : State → List ℕ → LineNumber → ℕ → TileDot
 tileDotOf s bank line =
     tileDot (windowOf (s .tiles) (s .tileclip) line) (setupOf (s .tiles) (ulaOn (s .ula))) (s .tiles .transparent) bank (line .0)
 

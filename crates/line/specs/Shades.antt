@@ -1,5 +1,5 @@
 -- How the tile dots of a line are composed by their shades: 1024 more than a dot where the tile is under the ULA. No part of what a
--- dot is: composing a shade is composing the dot's code.
+-- dot is: composing a shade is composing the tile dot.
 use Prim.Native.Nat.{ℕ, _/_, _%_}
 use mathlib.Core.List.{List}
 use mathlib.Core.Bool.{Bool, cond}

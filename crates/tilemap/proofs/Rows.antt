@@ -13,8 +13,8 @@ use Rattle.lists.specs.Tab.{tab}
 use Rattle.lists.proofs.Tab.{tab-none, tab-ext, tab-join, length-tab, getD-tab}
 use Rattle.tilemap.specs.declared.rule.TileSetup.{TileSetup}
 use Rattle.tilemap.specs.declared.rule.Entry.{Entry}
-use Rattle.tilemap.specs.Index.{columnsOf, widthOf, txOf, tyOf, cellOf, entryAt, tileNumber, turnOf, mirrored, bOf, columnOf, rowOf, pixelAt, entryPixel}
-use Rattle.tilemap.specs.Shades.{shadeOf, shadeAt, rowLength, tileRow}
+use Rattle.tilemap.specs.Index.{columnsOf, widthOf, tyOf, cellOf, entryAt, tileNumber, turnOf, mirrored, bOf, columnOf, rowOf, pixelAt, entryPixel, tileEntry, tileIndex}
+use Rattle.tilemap.specs.Shades.{shadeFrom, shadeOf, shadeAt, rowLength, tileRow}
 
 -- a rotated entry shows a column of its definition, any other a row
 module _ (t : TileSetup) (shades bank : List ℕ) (e : Entry) (y n b : ℕ) (en : n ≡ tileNumber t e) (eb : b ≡ bOf (turnOf (e .high)) y) where
@@ -71,10 +71,10 @@ row-within : (w : Bool) (s x : ℕ) → s < 8 → x < widthOf w → s + x < (col
 row-within true s x a h = omega arith
 row-within false s x a h = omega arith
 
--- what the layer above reads
+-- what the layer above reads: the shade of the index at x, with the mark of its entry
 pub row-at : (t : TileSetup) (shades bank : List ℕ) (y : ℕ) (rest : List ℕ) (x : ℕ) → x < widthOf (t .columns80)
-    → getD (tileRow t shades bank y ++ rest) (t .x % 8 + x) 0 ≡ shadeAt t shades bank (txOf t x) (tyOf t y)
-unfolding tileRow
+    → getD (tileRow t shades bank y ++ rest) (t .x % 8 + x) 0 ≡ getD shades (tileIndex t bank x y) 0 + tileEntry t bank x y .high % 2 * 1024
+unfolding tileRow shadeAt shadeFrom tileIndex
 row-at t shades bank y rest x h =
     let f : ℕ → ℕ = λ j. shadeAt t shades bank ((t .x / 8 * 8 + j) % widthOf (t .columns80)) (tyOf t y) in
     let s : t .x % 8 < 8 = omega arith in

@@ -1,4 +1,4 @@
--- What an entry shows is within bounds: its pixels always, and its high byte where the bank holds bytes.
+-- What an entry shows is within bounds: its pixels always, and its high byte, with the index, where the bank holds bytes.
 use Prim.Native.Nat.{ℕ, _+_, _/_, _%_, _<_}
 use mathlib.Core.List.{List}
 use mathlib.Core.Bool.{Bool, true, false, cond}
@@ -7,7 +7,7 @@ use lib.ListN.{getD}
 use lib.Dec.{eqb}
 use Rattle.tilemap.specs.declared.rule.TileSetup.{TileSetup}
 use Rattle.tilemap.specs.declared.rule.Entry.{Entry}
-use Rattle.tilemap.specs.Index.{fetched, entryAddress, highOf, entryAt, halfOf, pixelAt, entryPixel}
+use Rattle.tilemap.specs.Index.{txOf, tyOf, cellOf, fetched, entryAddress, highOf, entryAt, halfOf, pixelAt, entryPixel, tileEntry, tileIndex}
 use Rattle.tilemap.specs.Bounds.{SetupBounds}
 
 -- a choice of two that are below m
@@ -19,10 +19,17 @@ pub half-below : (x byte : ℕ) → halfOf x byte < 16
 unfolding halfOf
 half-below x byte = below (eqb (x % 2) 0) (byte / 16 % 16) (byte % 16) 16 (omega arith) (omega arith)
 
-pub pixel-below : (t : TileSetup) (bank : List ℕ) (e : Entry) (x y : ℕ) → entryPixel t bank e x y < 16
+pixel-below : (t : TileSetup) (bank : List ℕ) (e : Entry) (x y : ℕ) → entryPixel t bank e x y < 16
 unfolding entryPixel pixelAt
 pixel-below t bank e x y = half-below _ _
 
-pub high-below : (t : TileSetup) (bank : List ℕ) (cell : ℕ) → SetupBounds t → ((i : ℕ) → getD bank i 0 < 256) → entryAt t bank cell .high < 256
-unfolding entryAt highOf fetched
-high-below t bank cell l h = below (t .single) (t .attribute) (getD bank ((entryAddress t cell + 1) % 16384) 0) 256 (l .attribute) (h ((entryAddress t cell + 1) % 16384))
+module _ (t : TileSetup) (bank : List ℕ) (l : SetupBounds t) (h : (i : ℕ) → getD bank i 0 < 256) where
+  high-below : (cell : ℕ) → entryAt t bank cell .high < 256
+  unfolding entryAt highOf fetched
+  high-below cell = below (t .single) (t .attribute) (getD bank ((entryAddress t cell + 1) % 16384) 0) 256 (l .attribute) (h ((entryAddress t cell + 1) % 16384))
+
+  pub index-below : (x y : ℕ) → tileIndex t bank x y < 256
+  unfolding tileIndex
+  index-below x y =
+      let e = tileEntry t bank x y in
+      omega (arith, high-below (cellOf (t .columns80) (txOf t x) (tyOf t y)), pixel-below t bank e (txOf t x % 8) (tyOf t y % 8))

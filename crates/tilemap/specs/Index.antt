@@ -90,10 +90,15 @@ entryPixel t bank e x y =
 abbrev pub indexOf : ℕ → ℕ → ℕ
 indexOf high pixel = high / 16 * 16 + pixel
 
--- the index at (x, y); x counts dots in 80 columns and pixels in 40
+-- the entry at (x, y); x counts dots in 80 columns and pixels in 40
+abbrev pub tileEntry : TileSetup → List ℕ → ℕ → ℕ → Entry
+tileEntry t bank x y = entryAt t bank (cellOf (t .columns80) (txOf t x) (tyOf t y))
+
+-- the index at (x, y)
 unfoldable pub tileIndex : TileSetup → List ℕ → ℕ → ℕ → ℕ
 tileIndex t bank x y =
-    let tx = txOf t x in
-    let ty = tyOf t y in
-    let e = entryAt t bank (cellOf (t .columns80) tx ty) in
-    indexOf (e .high) (entryPixel t bank e (tx % 8) (ty % 8))
+    let e = tileEntry t bank x y in indexOf (e .high) (entryPixel t bank e (txOf t x % 8) (tyOf t y % 8))
+
+-- the ULA is above where the entry's bit 8 is set, which for one-byte entries is $6C's bit 0
+unfoldable pub ulaAbove : TileSetup → List ℕ → ℕ → ℕ → Bool
+ulaAbove t bank x y = eqb (tileEntry t bank x y .high % 2) 1

@@ -1,5 +1,5 @@
 -- The row that a line is composed from, in shades: a colour, or 512 where transparent, and 1024 more where the entry's bit 8 is
--- set. No part of what a dot is: `line` shows that composing a shade is composing the dot's code.
+-- set. No part of what a dot is: `line` shows that composing a shade is composing the tile dot.
 use Prim.Native.Nat.{ℕ, _+_, _*_, _/_, _%_}
 use mathlib.Core.List.{List}
 use lib.ListN.{getD}
