@@ -12,7 +12,7 @@ use Rattle.lists.proofs.Tab.{getD-tab}
 use Rattle.state.specs.Lawful.{allColours}
 use Rattle.surface.specs.Dots.{inside, clipped, topDot}
 use Rattle.tilemap.specs.Dots.{clear, shows}
-use Rattle.tilemap.specs.Bounds.{Shaded}
+use Rattle.tilemap.specs.Bounds.{ShadeBounds}
 use Rattle.line.specs.Compose.{tileColour, stencilled, composed}
 use Rattle.line.specs.Shades.{unlessTransparent, shadesOf, shadeOver}
 
@@ -23,16 +23,16 @@ colour-at (x ∷ xs) e zero = leb-true x 511 (left-true (leb x 511) (allColours 
 colour-at (x ∷ xs) e (suc i) = colour-at xs (right-true (leb x 511) (allColours xs) e) i
 
 -- 512 or a colour
-within : (b : Bool) (x : ℕ) → x ≤ 511 → cond b 512 x ≤ 512
-within true x h = omega arith
-within false x h = omega arith
+at-most-512 : (b : Bool) (x : ℕ) → x ≤ 511 → cond b 512 x ≤ 512
+at-most-512 true x h = omega arith
+at-most-512 false x h = omega arith
 
-pub shaded : (shades pal : List ℕ) (transparent : ℕ) → shades ≡ shadesOf pal transparent → allColours pal ≡ true → Shaded shades
+pub shaded : (shades pal : List ℕ) (transparent : ℕ) → shades ≡ shadesOf pal transparent → allColours pal ≡ true → ShadeBounds shades
 unfolding shadesOf
 shaded shades pal transparent q e =
     record {
       most =
-          λ i h. rw (q, getD-tab (λ (j : ℕ). unlessTransparent transparent j (getD pal j 0)) 256 i h) (within (eqb (i % 16) transparent) (getD pal i 0) (colour-at pal e i));
+          λ i h. rw (q, getD-tab (λ (j : ℕ). unlessTransparent transparent j (getD pal j 0)) 256 i h) (at-most-512 (eqb (i % 16) transparent) (getD pal i 0) (colour-at pal e i));
     }
 
 -- whichever palette is shown

@@ -1,46 +1,56 @@
--- The row of a line: a cell's eight shades are a column or a row of a definition, and eight of the line's; a cell that is written
+-- The row of a line: a cell's eight shades are written one by one; they are a column or a row of a definition, and eight of the line's; a cell that is written
 -- makes the row longer; and the shade at x of the surface stands X offset mod 8 further on.
-use Prim.Native.Nat.{ℕ, _+_, _*_, _/_, _%_, _<_}
+use Prim.Native.Nat.{ℕ, _+_, _*_, _/_, _%_, _≤_, _<_}
 use mathlib.Core.Path.{_≡_, ap, _∙_}
 use mathlib.Core.List.{List, _++_, append-assoc}
-use mathlib.Core.Bool.{Bool, true, false, not}
+use mathlib.Core.Bool.{Bool, true, false, cond, not}
 use native.Mathlib.Omega.{arith}
 use lib.Dec.{eqb}
-use borrow.Author.Tests.{eq-eqb, ne-eqb}
-use lib.ListN.{take, drop, getD, List·getD-append}
+use lib.ListN.{length, take, drop, getD, set, length-set, List·getD-append}
 use lib.Seq.{take-at, drop-at, drop-drop}
 use Rattle.lists.specs.Tab.{tab}
-use Rattle.lists.proofs.Tab.{tab-none, tab-ext, tab-join, length-tab, getD-tab}
+use Rattle.lists.proofs.Tab.{tab-none, tab-step, tab-done, tab-ext, tab-join, length-tab, getD-tab}
 use Rattle.tilemap.specs.declared.rule.TileSetup.{TileSetup}
 use Rattle.tilemap.specs.declared.rule.Entry.{Entry}
 use Rattle.tilemap.specs.Index.{columnsOf, widthOf, tyOf, cellOf, entryAt, tileNumber, turnOf, mirrored, bOf, columnOf, rowOf, pixelAt, entryPixel, tileEntry, tileIndex}
 use Rattle.tilemap.specs.Shades.{shadeFrom, shadeOf, shadeAt, rowLength, tileRow}
 
+-- the first k of a cell's eight shades are written, whatever pixel is read for each
+pub record Written (shades : List ℕ) (offset mark : ℕ) (pixel : ℕ → ℕ) (out : List ℕ) (k : ℕ) : Type 0 where
+  pub most : k ≤ 8
+  pub eight : length out ≡ 8
+  pub right : take k out ≡ tab (λ (j : ℕ). shadeFrom shades offset mark (pixel j)) k
+
+module _ (shades : List ℕ) (offset mark : ℕ) (pixel : ℕ → ℕ) (out : List ℕ) where
+  pub written-none : length out ≡ 8 → Written shades offset mark pixel out 0
+  written-none e = record { most = omega arith; eight = e; right = tab-none _ }
+
+  pub written-step : (k v : ℕ) → Written shades offset mark pixel out k → k < 8 → v ≡ shadeFrom shades offset mark (pixel k)
+      → Written shades offset mark pixel (set out k v) (k + 1)
+  written-step k v h l e = record { most = omega arith; eight = simp length-set (h .eight); right = tab-step _ _ _ _ (omega arith) (h .right) e }
+
+  pub written-done : (k : ℕ) → Written shades offset mark pixel out k → 8 ≤ k → out ≡ tab (λ (j : ℕ). shadeFrom shades offset mark (pixel j)) 8
+  written-done k h l = let e : k ≡ 8 = omega arith in tab-done _ _ 8 (h .eight) (rw e at (h .right))
+
 -- a rotated entry shows a column of its definition, any other a row
 module _ (t : TileSetup) (shades bank : List ℕ) (e : Entry) (y n b : ℕ) (en : n ≡ tileNumber t e) (eb : b ≡ bOf (turnOf (e .high)) y) where
-  abbrev flip : Bool
-  flip = not (eqb (turnOf (e .high) / 4 % 2) (turnOf (e .high) % 2))
+  abbrev back : Bool
+  back = not (eqb (turnOf (e .high) / 4 % 2) (turnOf (e .high) % 2))
 
-  pub rotated-shades : turnOf (e .high) % 2 ≡ 1
-      → tab (λ (k : ℕ). shadeOf shades (e .high) (pixelAt bank (t .definitions + n * 32) b (mirrored flip k))) 8
+  pub turned-shades : (rotate : Bool) → eqb (turnOf (e .high) % 2) 1 ≡ rotate
+      → tab (λ (k : ℕ). shadeOf shades (e .high) (pixelAt bank (t .definitions + n * 32) (cond rotate b (mirrored back k)) (cond rotate (mirrored back k) b))) 8
       ≡ tab (λ (k : ℕ). shadeOf shades (e .high) (entryPixel t bank e k y)) 8
   unfolding entryPixel columnOf rowOf
-  rotated-shades r = tab-ext _ _ 8 (λ k g. rw (en, eb, eq-eqb (turnOf (e .high) % 2) 1 r))
+  turned-shades rotate r = tab-ext _ _ 8 (λ k g. rw (en, eb, r))
 
-  pub straight-shades : (turnOf (e .high) % 2 ≡ 1 → ⊥)
-      → tab (λ (k : ℕ). shadeOf shades (e .high) (pixelAt bank (t .definitions + n * 32) (mirrored flip k) b)) 8
-      ≡ tab (λ (k : ℕ). shadeOf shades (e .high) (entryPixel t bank e k y)) 8
-  unfolding entryPixel columnOf rowOf
-  straight-shades r = tab-ext _ _ 8 (λ k g. rw (en, eb, ne-eqb (turnOf (e .high) % 2) 1 r))
-
--- the eight places of a cell are in one column of the map
+-- the eight places of a cell are in one column of the map, each at its own place in the cell
 same-column : (w : Bool) (x j k : ℕ) → j % 8 ≡ 0 → k < 8 → (x / 8 * 8 + (j + k)) % widthOf w / 8 ≡ (x / 8 * 8 + j) % widthOf w / 8
 same-column true x j k e h = omega arith
 same-column false x j k e h = omega arith
 
-within : (w : Bool) (x j k : ℕ) → j % 8 ≡ 0 → k < 8 → (x / 8 * 8 + (j + k)) % widthOf w % 8 ≡ k
-within true x j k e h = omega arith
-within false x j k e h = omega arith
+place-in-cell : (w : Bool) (x j k : ℕ) → j % 8 ≡ 0 → k < 8 → (x / 8 * 8 + (j + k)) % widthOf w % 8 ≡ k
+place-in-cell true x j k e h = omega arith
+place-in-cell false x j k e h = omega arith
 
 pub cell-shades : (t : TileSetup) (shades bank : List ℕ) (j ty tx cell : ℕ) (e : Entry) → j % 8 ≡ 0 → tx ≡ (t .x / 8 * 8 + j) % widthOf (t .columns80)
     → cell ≡ cellOf (t .columns80) tx ty → e ≡ entryAt t bank cell
@@ -48,7 +58,7 @@ pub cell-shades : (t : TileSetup) (shades bank : List ℕ) (j ty tx cell : ℕ) 
     ≡ tab (λ (k : ℕ). shadeAt t shades bank ((t .x / 8 * 8 + (j + k)) % widthOf (t .columns80)) ty) 8
 unfolding shadeAt
 cell-shades t shades bank j ty tx cell e z p q r =
-    tab-ext _ _ 8 (λ k g. rw (same-column (t .columns80) (t .x) j k z g, within (t .columns80) (t .x) j k z g, ← p, ← q, ← r))
+    tab-ext _ _ 8 (λ k g. rw (same-column (t .columns80) (t .x) j k z g, place-in-cell (t .columns80) (t .x) j k z g, ← p, ← q, ← r))
 
 -- the row before any cell is written
 pub row-none : (f : ℕ → ℕ) (out : List ℕ) → out ≡ tab f 0 ++ drop 0 out

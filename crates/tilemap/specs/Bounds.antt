@@ -14,10 +14,10 @@ pub record SetupBounds (t : TileSetup) : Type 0 where
   pub y : t .y < 256
 
 -- an entry's two bytes
-pub record Bytes (e : Entry) : Type 0 where
+pub record EntryBounds (e : Entry) : Type 0 where
   pub low : e .low < 256
   pub high : e .high < 256
 
 -- a table of colours, or 512 where transparent
-pub record Shaded (shades : List ℕ) : Type 0 where
+pub record ShadeBounds (shades : List ℕ) : Type 0 where
   pub most : (i : ℕ) → i < 256 → getD shades i 0 ≤ 512

@@ -5,12 +5,7 @@ mod rule;
 mod setup;
 
 pub use cells::tile_row;
-pub use rule::Entry;
-pub use rule::Spot;
 pub use rule::TileSetup;
-pub use rule::entry_at;
-pub use rule::entry_pixel;
-pub use rule::fetch;
 pub use rule::half;
 pub use rule::index_at;
 pub use rule::mirror;

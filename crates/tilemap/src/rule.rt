@@ -3,7 +3,7 @@ ghost use mathlib.Core.Path.{_≡_};
 ghost use Prim.Native.Nat.{_+_, _%_, _<_};
 ghost use lib.ListN.{length};
 ghost use Rattle.tilemap.specs.Index.{widthOf, tyOf, cellOf, fetched, entryAddress, highOf, entryAt, tileNumber, mirrored, columnOf, rowOf, halfOf, pixelAt, entryPixel, tileIndex};
-ghost use Rattle.tilemap.specs.Bounds.{SetupBounds, Bytes};
+ghost use Rattle.tilemap.specs.Bounds.{SetupBounds, EntryBounds};
 use lists::usize_of;
 
 // How a tilemap lies in its bank and on the surface.
@@ -69,7 +69,7 @@ fn high_of(t: TileSetup, bank: &[u8], at: usize) -> usize
 // An entry of two bytes, or of one with $6C.
 pub fn entry_at(t: TileSetup, bank: &[u8], cell: usize) -> Entry
     requires { ⌜ (SetupBounds t) × (cell < 2560) × (length (now bank) ≡ 16384) ⌝ }
-    ensures { λ r. ⌜ (r ≡ entryAt t (now (bank .entry)) cell) × (Bytes r) ⌝ }
+    ensures { λ r. ⌜ (r ≡ entryAt t (now (bank .entry)) cell) × (EntryBounds r) ⌝ }
 {
     let at = entry_address(t, cell);
     let low = fetch(bank, at);
@@ -78,7 +78,7 @@ pub fn entry_at(t: TileSetup, bank: &[u8], cell: usize) -> Entry
 }
 
 pub fn tile_number(t: TileSetup, e: Entry) -> usize
-    requires { ⌜ Bytes e ⌝ }
+    requires { ⌜ EntryBounds e ⌝ }
     ensures { λ r. ⌜ (r ≡ tileNumber t e) × (r < 512) ⌝ }
 {
     if t.ula {
@@ -131,7 +131,7 @@ pub fn pixel_at(bank: &[u8], at: usize, s: Spot) -> usize
 
 // The pixel that an entry shows at (x, y) of its cell.
 pub fn entry_pixel(t: TileSetup, bank: &[u8], e: Entry, x: usize, y: usize) -> usize
-    requires { ⌜ (SetupBounds t) × (Bytes e) × (length (now bank) ≡ 16384) × (x < 8) × (y < 8) ⌝ }
+    requires { ⌜ (SetupBounds t) × (EntryBounds e) × (length (now bank) ≡ 16384) × (x < 8) × (y < 8) ⌝ }
     ensures { λ r. ⌜ (r ≡ entryPixel t (now (bank .entry)) e x y) × (r < 16) ⌝ }
 {
     let at = t.definitions + tile_number(t, e) * 32;

@@ -1,5 +1,7 @@
 -- `entry_shades` shows a column or a row of the definition by its turn.
-use Rattle.tilemap.proofs.Rows.{rotated-shades, straight-shades}
+use Rattle.tilemap.proofs.Rows.{turned-shades}
+use mathlib.Core.Bool.{true, false}
+use borrow.Author.Tests.{eq-eqb, ne-eqb}
 use mathlib.Core.Path.{_∙_}
 use borrow.Author.Needs.{needs}
 use Rattle.tilemap.proofs.cells.entry_shades.Statement.{statement}
@@ -39,7 +41,7 @@ returns : tie.Need-returns
 returns c = let b = c .before .before in
     let m = b .before .before .before .before .before in
     let s = m .before .before .before .before .before .before .args in
-    b .rotated .ensures ∙ rotated-shades (s .t) (s .shades .now) (s .bank .now) (s .e) (s .y) _ _ (m .before .before .before .tile-number .ensures .0) (m .mirror .ensures .0) (b .before .before .if1 .taken)
+    b .rotated .ensures ∙ turned-shades (s .t) (s .shades .now) (s .bank .now) (s .e) (s .y) _ _ (m .before .before .before .tile-number .ensures .0) (m .mirror .ensures .0) true (eq-eqb _ _ (b .before .before .if1 .taken))
 
 same-length-2 : tie.Need-same-length-2
 same-length-2 c = search needs
@@ -48,7 +50,7 @@ returns-2 : tie.Need-returns-2
 returns-2 c = let b = c .before .before in
     let m = b .before .before .before .before .before in
     let s = m .before .before .before .before .before .before .args in
-    b .straight .ensures ∙ straight-shades (s .t) (s .shades .now) (s .bank .now) (s .e) (s .y) _ _ (m .before .before .before .tile-number .ensures .0) (m .mirror .ensures .0) (b .before .before .if1 .left)
+    b .straight .ensures ∙ turned-shades (s .t) (s .shades .now) (s .bank .now) (s .e) (s .y) _ _ (m .before .before .before .tile-number .ensures .0) (m .mirror .ensures .0) false (ne-eqb _ _ (b .before .before .if1 .left))
 
 pub entry-shades-spec : {M : Type 1} → statement M
 entry-shades-spec =

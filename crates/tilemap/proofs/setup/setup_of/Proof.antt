@@ -1,4 +1,4 @@
--- `layout_of` makes its record of the widened bytes.
+-- `setup_of` makes its record of the widened bytes.
 use Rattle.tilemap.specs.Setup.{setupOf}
 use borrow.Author.Needs.{needs}
 use Rattle.tilemap.proofs.setup.setup_of.Statement.{statement}
