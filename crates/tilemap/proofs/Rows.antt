@@ -77,9 +77,10 @@ pub row-done : (t : TileSetup) (shades bank : List ℕ) (y ty j : ℕ) (out old 
 unfolding tileRow
 row-done t shades bank y ty j out old e q p = rw (← e, ← q) p
 
-row-within : (w : Bool) (s x : ℕ) → s < 8 → x < widthOf w → s + x < (columnsOf w + 1) * 8
-row-within true s x a h = omega arith
-row-within false s x a h = omega arith
+-- the row reaches past every x, however far into a cell it starts
+row-reaches : (w : Bool) (s x : ℕ) → s < 8 → x < widthOf w → s + x < (columnsOf w + 1) * 8
+row-reaches true s x a h = omega arith
+row-reaches false s x a h = omega arith
 
 -- what the layer above reads: the shade of the index at x, with the mark of its entry
 pub row-at : (t : TileSetup) (shades bank : List ℕ) (y : ℕ) (rest : List ℕ) (x : ℕ) → x < widthOf (t .columns80)
@@ -88,7 +89,7 @@ unfolding tileRow shadeAt shadeFrom tileIndex
 row-at t shades bank y rest x h =
     let f : ℕ → ℕ = λ j. shadeAt t shades bank ((t .x / 8 * 8 + j) % widthOf (t .columns80)) (tyOf t y) in
     let s : t .x % 8 < 8 = omega arith in
-    let l : t .x % 8 + x < rowLength t = row-within (t .columns80) (t .x % 8) x s h in
+    let l : t .x % 8 + x < rowLength t = row-reaches (t .columns80) (t .x % 8) x s h in
     let e : t .x / 8 * 8 + (t .x % 8 + x) ≡ x + t .x = omega arith in
     List·getD-append (tab f (rowLength t)) rest 0 (t .x % 8 + x) (rw length-tab l)
     ∙ getD-tab f (rowLength t) (t .x % 8 + x) l
