@@ -2,11 +2,11 @@
 -- longer.
 use mathlib.Core.Path.{_≡_, sym, ap, _∙_}
 use mathlib.Core.List.{List, [], _∷_, _++_, append-assoc, append-nil}
-use Prim.Native.Nat.{ℕ, _+_, _<_}
+use Prim.Native.Nat.{ℕ, _+_, _≤_, _<_}
 use native.Mathlib.Nat.{add-zero, add-assoc}
 use native.Mathlib.Numerals.{add-one}
 use native.Mathlib.Omega.{arith}
-use lib.ListN.{length, take, drop, set, length-append, take-append-drop}
+use lib.ListN.{length, take, drop, set, length-append, take-append-drop, drop-of-length-le}
 use lib.Seq.{drop-cons, set-at, take-at, drop-at, drop-drop, length-take-le}
 use Rattle.lists.specs.Placed.{placed}
 
@@ -38,3 +38,8 @@ pub placed-next : (pre b ys : List ℕ) (n m : ℕ) → length pre ≡ n → m �
 unfolding placed
 placed-next pre b ys n m e f =
     rw (take-at pre (drop n b) n e, f, ← drop-drop (length ys) n (pre ++ drop n b), drop-at pre (drop n b) n e, drop-drop)
+
+-- a part as long as the whole
+pub placed-whole : (b ys : List ℕ) → length ys ≡ length b → placed b 0 ys ≡ ys
+unfolding placed
+placed-whole b ys e = let l : length b ≤ 0 + length ys = omega arith in rw (drop-of-length-le b l) (append-nil ys)

@@ -1,3 +1,4 @@
 pub mod Tab
 pub mod Search
 pub mod Placed
+pub mod Bytes
