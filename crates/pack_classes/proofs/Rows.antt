@@ -1,5 +1,5 @@
 -- Rows compared as numbers: eight bytes are equal exactly where their numbers are, since a byte is a digit to the base 256; and
--- what a turn makes of a cell is the cell, or its flip where the turn rotates, mirrored.
+-- what a turn makes of a cell is the cell, or its transpose where the turn rotates, mirrored.
 use mathlib.Core.Path.{_≡_, refl, sym, ap, ap₂, _∙_, subst}
 use mathlib.Core.List.{List}
 use mathlib.Core.Bool.{Bool, true, false, cond, not}
@@ -15,7 +15,7 @@ use Rattle.lists.proofs.Tab.{getD-tab}
 use Rattle.tilemap.specs.Index.{columnOf, rowOf, mirrored}
 use Rattle.pack_classes.specs.Picture.{pixelIn}
 use Rattle.pack_classes.specs.Turned.{turnedRow, turnedInto}
-use Rattle.pack_classes.specs.Rows.{flipped, inRow, Row, rowSame, rowsSame}
+use Rattle.pack_classes.specs.Rows.{transposeOf, inRow, Row, rowSame, rowsSame}
 use Rattle.pack_classes.proofs.Group.{mirrored-small}
 
 pub bool-same : (a b : Bool) → (a ≡ true → b ≡ true) → (b ≡ true → a ≡ true) → a ≡ b
@@ -37,7 +37,7 @@ digits d (suc n) = d 0 + 256 * digits (λ x. d (suc x)) n
 module _ (cell : List ℕ) (i : ℕ) (back : Bool) (r : ℕ) (w : Row cell i back r) where
   row-digits : r ≡ digits (inRow cell i back) 8
   unfolding digits
-  row-digits = omega (arith, w .number)
+  row-digits = omega (arith, w .row-number)
 
   row-bytes : (x : ℕ) → x < 8 → inRow cell i back x < 256
   row-bytes =
@@ -81,26 +81,26 @@ unfolding all
 all-same p q zero h = refl
 all-same p q (suc n) h = ap₂ (λ (b c : Bool). cond b c false) (h n (omega arith)) (all-same p q n (λ x l. h x (omega (arith, l))))
 
-flip-at : (cell : List ℕ) (x y : ℕ) → x < 8 → y < 8 → pixelIn (flipped cell) x y ≡ pixelIn cell y x
-unfolding flipped
-flip-at cell x y h k =
+transpose-at : (cell : List ℕ) (x y : ℕ) → x < 8 → y < 8 → pixelIn (transposeOf cell) x y ≡ pixelIn cell y x
+unfolding transposeOf
+transpose-at cell x y h k =
     let ex : (y * 8 + x) % 8 ≡ x = omega arith in
     let ey : (y * 8 + x) / 8 ≡ y = omega arith in
     getD-tab (λ (i : ℕ). getD cell (i % 8 * 8 + i / 8) 0) 64 (y * 8 + x) (omega arith) ∙ ap₂ (λ (u v : ℕ). getD cell (u * 8 + v) 0) ex ey
 
--- a cell that a turn makes is the first cell, or its flip where the turn rotates, mirrored
+-- a cell that a turn makes is the first cell, or its transpose where the turn rotates, mirrored
 pub turned-rows : (from cell : List ℕ) (t : ℕ) (r : Bool) → eqb (t % 2) 1 ≡ r
-    → rowsSame (cond r (flipped from) from) cell (eqb (t / 2 % 2) 1) (not (eqb (t / 4 % 2) (t % 2))) ≡ turnedInto from cell t
+    → rowsSame (cond r (transposeOf from) from) cell (eqb (t / 2 % 2) 1) (not (eqb (t / 4 % 2) (t % 2))) ≡ turnedInto from cell t
 unfolding rowsSame rowSame turnedInto turnedRow columnOf rowOf
 turned-rows from cell t r e =
-    subst (λ (z : Bool). rowsSame (cond z (flipped from) from) cell (eqb (t / 2 % 2) 1) (not (eqb (t / 4 % 2) (t % 2))) ≡ turnedInto from cell t) e
+    subst (λ (z : Bool). rowsSame (cond z (transposeOf from) from) cell (eqb (t / 2 % 2) 1) (not (eqb (t / 4 % 2) (t % 2))) ≡ turnedInto from cell t) e
     (go (eqb (t % 2) 1) (eqb (t / 2 % 2) 1) (not (eqb (t / 4 % 2) (t % 2))))
   where
     go : (r down back : Bool)
-        → all (λ y. all (λ x. eqb (pixelIn cell x y) (pixelIn (cond r (flipped from) from) (mirrored back x) (mirrored down y))) 8) 8
+        → all (λ y. all (λ x. eqb (pixelIn cell x y) (pixelIn (cond r (transposeOf from) from) (mirrored back x) (mirrored down y))) 8) 8
         ≡ all (λ y. all (λ x. eqb (pixelIn cell x y) (pixelIn from (cond r (mirrored down y) (mirrored back x)) (cond r (mirrored back x) (mirrored down y)))) 8) 8
     go false down back = refl
     go true down back =
         all-same _ _ 8
         (λ y k. all-same _ _ 8
-        (λ x l. ap (eqb (pixelIn cell x y)) (flip-at from (mirrored back x) (mirrored down y) (mirrored-small back x l) (mirrored-small down y k))))
+        (λ x l. ap (eqb (pixelIn cell x y)) (transpose-at from (mirrored back x) (mirrored down y) (mirrored-small back x l) (mirrored-small down y k))))

@@ -11,12 +11,12 @@ use Rattle.lists.specs.Search.{all}
 use Rattle.tilemap.specs.Index.{mirrored}
 
 -- a cell of 64 pixels with its rows and columns exchanged
-unfoldable pub flipped : List ℕ → List ℕ
-flipped cell = tab (λ (i : ℕ). getD cell (i % 8 * 8 + i / 8) 0) 64
+unfoldable pub transposeOf : List ℕ → List ℕ
+transposeOf cell = tab (λ (i : ℕ). getD cell (i % 8 * 8 + i / 8) 0) 64
 
 -- eight bytes, and their number with the first the lowest
 pub record Eight (a b c d e f g h r : ℕ) : Type 0 where
-  pub number : r ≡ a + b * 256 + c * 65536 + d * 16777216 + e * 4294967296 + f * 1099511627776 + g * 281474976710656 + h * 72057594037927936
+  pub row-number : r ≡ a + b * 256 + c * 65536 + d * 16777216 + e * 4294967296 + f * 1099511627776 + g * 281474976710656 + h * 72057594037927936
   pub byte0 : a < 256
   pub byte1 : b < 256
   pub byte2 : c < 256

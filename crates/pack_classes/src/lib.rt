@@ -7,5 +7,5 @@ mod turns;
 pub use marks::mark;
 pub use pixels::cell_bytes;
 pub use pixels::unpack;
-pub use turns::flip;
+pub use turns::transpose;
 pub use turns::turn_marked;

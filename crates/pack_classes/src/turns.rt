@@ -3,16 +3,16 @@ ghost use mathlib.Core.Path.{_≡_};
 ghost use mathlib.Core.Bool.{true, false};
 ghost use Prim.Native.Nat.{_≤_};
 ghost use lib.ListN.{length};
-ghost use Rattle.pack_classes.specs.Rows.{flipped, Eight, Row, rowSame, rowsSame};
+ghost use Rattle.pack_classes.specs.Rows.{transposeOf, Eight, Row, rowSame, rowsSame};
 ghost use Rattle.pack_classes.specs.Turned.{turnedInto, turnFor};
 ghost use Rattle.pack_classes.specs.Mark.{markOf};
 use lists::usize_of;
 use tilemap::mirror;
 
 // A cell with its rows and columns exchanged, in which rotated turns are compared row by row.
-pub fn flip(cell: &[u8], out: &mut [u8])
+pub fn transpose(cell: &[u8], out: &mut [u8])
     requires { ⌜ (length (now cell) ≡ 64) × (length (now out) ≡ 64) ⌝ }
-    ensures { λ r. ⌜ now (out .exit) ≡ flipped (now (cell .entry)) ⌝ }
+    ensures { λ r. ⌜ now (out .exit) ≡ transposeOf (now (cell .entry)) ⌝ }
 {
     for i in 0..64 {
         out[i] = cell[i % 8 * 8 + i / 8];
@@ -20,7 +20,7 @@ pub fn flip(cell: &[u8], out: &mut [u8])
 }
 
 // Eight pixels as one number, the first the lowest, so that they are compared at once.
-fn number(a: u8, b: u8, c: u8, d: u8, e: u8, f: u8, g: u8, h: u8) -> usize
+fn row_number(a: u8, b: u8, c: u8, d: u8, e: u8, f: u8, g: u8, h: u8) -> usize
     ensures { λ r. ⌜ Eight a b c d e f g h r ⌝ }
 {
     usize_of(a)
@@ -38,7 +38,7 @@ fn row(cell: &[u8; 64], i: usize) -> usize
     requires { ⌜ i ≤ 56 ⌝ }
     ensures { λ r. ⌜ Row (now (cell .entry)) i false r ⌝ }
 {
-    number(
+    row_number(
         cell[i],
         cell[i + 1],
         cell[i + 2],
@@ -55,7 +55,7 @@ fn row_back(cell: &[u8; 64], i: usize) -> usize
     requires { ⌜ i ≤ 56 ⌝ }
     ensures { λ r. ⌜ Row (now (cell .entry)) i true r ⌝ }
 {
-    number(
+    row_number(
         cell[i + 7],
         cell[i + 6],
         cell[i + 5],
@@ -90,27 +90,27 @@ fn same(from: &[u8; 64], cell: &[u8; 64], down: bool, back: bool) -> bool
     true
 }
 
-// One unpacked cell, turned by t, is another. Where t rotates, the first cell's flip is mirrored.
-fn same_turn(from: &[u8; 64], over: &[u8; 64], cell: &[u8; 64], t: usize) -> bool
-    requires { ⌜ now over ≡ flipped (now from) ⌝ }
+// One unpacked cell, turned by t, is another. Where t rotates, the first cell's transpose is mirrored.
+fn same_turn(from: &[u8; 64], transposed: &[u8; 64], cell: &[u8; 64], t: usize) -> bool
+    requires { ⌜ now transposed ≡ transposeOf (now from) ⌝ }
     ensures { λ r. ⌜ r ≡ turnedInto (now (from .entry)) (now (cell .entry)) t ⌝ }
 {
     let down = t / 2 % 2 == 1;
     let back = t / 4 % 2 != t % 2;
     if t % 2 == 1 {
-        same(over, cell, down, back)
+        same(transposed, cell, down, back)
     } else {
         same(from, cell, down, back)
     }
 }
 
-// The smallest turn that makes one unpacked cell into another, or 8; `over` is the first cell's flip.
-fn turn_for(from: &[u8; 64], over: &[u8; 64], cell: &[u8; 64]) -> usize
-    requires { ⌜ now over ≡ flipped (now from) ⌝ }
+// The smallest turn that makes one unpacked cell into another, or 8; `transposed` is the first cell's transpose.
+fn turn_for(from: &[u8; 64], transposed: &[u8; 64], cell: &[u8; 64]) -> usize
+    requires { ⌜ now transposed ≡ transposeOf (now from) ⌝ }
     ensures { λ r. ⌜ r ≡ turnFor (now (from .entry)) (now (cell .entry)) ⌝ }
 {
     for t in 0..8 {
-        if same_turn(from, over, cell, t) {
+        if same_turn(from, transposed, cell, t) {
             return t;
         }
     }
@@ -120,16 +120,16 @@ fn turn_for(from: &[u8; 64], over: &[u8; 64], cell: &[u8; 64]) -> usize
 // The same, with the marks of both cells at hand: where they differ no turn is tried.
 pub fn turn_marked(
     from: &[u8; 64],
-    over: &[u8; 64],
+    transposed: &[u8; 64],
     cell: &[u8; 64],
     ours: u32,
     theirs: u32,
 ) -> usize
-    requires { ⌜ (now over ≡ flipped (now from)) × (ours ≡ markOf (now from)) × (theirs ≡ markOf (now cell)) ⌝ }
+    requires { ⌜ (now transposed ≡ transposeOf (now from)) × (ours ≡ markOf (now from)) × (theirs ≡ markOf (now cell)) ⌝ }
     ensures { λ r. ⌜ r ≡ turnFor (now (from .entry)) (now (cell .entry)) ⌝ }
 {
     if ours != theirs {
         return 8;
     }
-    turn_for(from, over, cell)
+    turn_for(from, transposed, cell)
 }

@@ -9,12 +9,13 @@ use lib.ListN.{length}
 use borrow.Author.Tests.{eq-eqb, ne-eqb, eqb-true, le-leb, lt-leb, leb-true, leb-false}
 use Rattle.lists.proofs.Cond.{if-true, if-false, left-true, right-true}
 use Rattle.lists.proofs.Tab.{length-tab}
+use Rattle.lists.specs.Bytes.{Bytes}
 use Rattle.reply.specs.declared.Reply.{Reply}
 use Rattle.reply.specs.declared.Reply.the-variants.{Done, BufferLength, TooManyTiles, PackingBounds}
 use Rattle.reply.specs.Reply.{isDone, replyNumber}
 use Rattle.pack_classes.specs.Turned.{classes}
 use Rattle.packer.specs.declared.Packing.{Packing}
-use Rattle.packer.specs.Sheet.{named, Bytes, Draws}
+use Rattle.packer.specs.Sheet.{named, Draws}
 use Rattle.packer.specs.Greedy.{tileCount, mapByte, defByte, packedMap, packedDefs}
 use Rattle.packer.specs.Answer.{judged, answered, packAnswer, NoneDraws, Packs}
 use Rattle.packer.specs.Bounds.{Counted, Written}
@@ -87,8 +88,8 @@ pub answered-same : (pic : List ℕ) (allowed n : ℕ) → Counted pic allowed n
 answered-same pic allowed n w = go (leb n allowed) refl
   where
     go : (b : Bool) → leb n allowed ≡ b → answered n allowed ≡ answered (tileCount pic) allowed
-    go true e = ap (λ (k : ℕ). answered k allowed) (w .within (leb-true n allowed e))
-    go false e = let l = leb-false n allowed e in answered-many n allowed l ∙ sym (answered-many (tileCount pic) allowed (w .over l))
+    go true e = ap (λ (k : ℕ). answered k allowed) (w .count-is (leb-true n allowed e))
+    go false e = let l = leb-false n allowed e in answered-many n allowed l ∙ sym (answered-many (tileCount pic) allowed (w .too-many l))
 
 module _ (pic : List ℕ) (allowed offset : ℕ) (map defs : List ℕ) where
   pub early : (r : Reply) → r ≡ judged (length pic) (length map) (length defs) allowed offset → (replyNumber r ≡ 0 → ⊥)
@@ -157,8 +158,8 @@ module _ (pic : List ℕ) (allowed offset : ℕ) (map defs : List ℕ) where
         go : (b : Bool) → leb n allowed ≡ b → Packs pic allowed offset map defs map′ defs′ a
         go true h =
             let l = leb-true n allowed h in
-            let k = w .counted .within l in
+            let k = w .counted .count-is l in
             rw (e, answered-done n allowed l, w .map-done l, w .defs-done l, k) (done bytes (omega (arith, l, k)))
         go false h =
             let l = leb-false n allowed h in
-            rw (e, answered-many n allowed l, w .map-left l, w .defs-left l) (too-many (w .counted .over l))
+            rw (e, answered-many n allowed l, w .map-left l, w .defs-left l) (too-many (w .counted .too-many l))

@@ -8,10 +8,11 @@ use native.Mathlib.Omega.{arith}
 use native.Mathlib.Nat.{add-assoc}
 use lib.ListN.{length, getD, take, drop, replicate, length-append, length-replicate}
 use lib.Seq.{getD-take, getD-drop, take-at, drop-at}
+use Rattle.lists.specs.Bytes.{Bytes}
 use Rattle.tilemap.specs.Index.{fetched, entryAddress, highOf, entryAt, tileNumber, turnOf, columnOf, rowOf, halfOf, pixelAt, entryPixel, tileIndex}
 use Rattle.tilemap.proofs.Inside.{fetched-inside}
 use Rattle.pack_classes.proofs.Group.{column-small, row-small}
-use Rattle.packer.specs.Sheet.{lowByte, highByte, sheetSetup, Bytes, SetIn, sheetIndex}
+use Rattle.packer.specs.Sheet.{lowByte, highByte, sheetSetup, SetIn, sheetIndex}
 use Rattle.packer.specs.Answer.{Setting}
 
 -- a byte of a part of the bank

@@ -18,7 +18,7 @@ use Rattle.pack_classes.specs.Picture.{cellPixels}
 use Rattle.pack_classes.specs.Turned.{turnedInto, turnFor, canMake, canTurn}
 use Rattle.pack_classes.proofs.Cells.{can-self, can-trans}
 use Rattle.pack_classes.proofs.Rows.{bool-same}
-use Rattle.packer.specs.Greedy.{placeIn, defCells, tileOf, sourceOf, cellTurn}
+use Rattle.packer.specs.Greedy.{firstMaker, defCells, tileOf, sourceOf, cellTurn}
 
 -- what a step keeps
 module _ (ds : List ℕ) (c : ℕ) where
@@ -44,14 +44,14 @@ module _ (pic : List ℕ) where
   unfolding defCells
   grows c m h =
       le-ind (λ m. length (defCells pic c) ≤ length (defCells pic m)) (le-refl _)
-      (λ m l e. omega (arith, e, kept-length (defCells pic m) m (ltb (placeIn pic (defCells pic m) m) (length (defCells pic m))))) m h
+      (λ m l e. omega (arith, e, kept-length (defCells pic m) m (ltb (firstMaker pic (defCells pic m) m) (length (defCells pic m))))) m h
 
   pub keeps : (c m : ℕ) → c ≤ m → (n : ℕ) → n < length (defCells pic c) → getD (defCells pic m) n 0 ≡ getD (defCells pic c) n 0
   unfolding defCells
   keeps c m h =
       le-ind (λ m. (n : ℕ) → n < length (defCells pic c) → getD (defCells pic m) n 0 ≡ getD (defCells pic c) n 0) (λ n l. refl)
       (λ m k e n l.
-      kept-at (defCells pic m) m (ltb (placeIn pic (defCells pic m) m) (length (defCells pic m))) n (omega (arith, l, grows c m k))
+      kept-at (defCells pic m) m (ltb (firstMaker pic (defCells pic m) m) (length (defCells pic m))) n (omega (arith, l, grows c m k))
       ∙ e n l) m h
 
   -- a definition was taken from an earlier cell
@@ -63,7 +63,7 @@ module _ (pic : List ℕ) where
   pub cells-below : (c n : ℕ) → n < length (defCells pic c) → getD (defCells pic c) n 0 < c
   unfolding defCells
   cells-below zero n l = absurd (not-suc-le-zero l)
-  cells-below (suc c) n l = below-step (defCells pic c) c (ltb (placeIn pic (defCells pic c) c) (length (defCells pic c))) (cells-below c) n l
+  cells-below (suc c) n l = below-step (defCells pic c) c (ltb (firstMaker pic (defCells pic c) c) (length (defCells pic c))) (cells-below c) n l
 
   -- the definition of cell c, among those of the cells below suc c
   pub record Source (ds : List ℕ) (c n : ℕ) : Type 0 where
@@ -81,10 +81,10 @@ module _ (pic : List ℕ) where
       }
 
   pub source : (c : ℕ) → Source (defCells pic (suc c)) c (tileOf pic c)
-  unfolding defCells tileOf placeIn
+  unfolding defCells tileOf firstMaker
   source c =
-      source-step (defCells pic c) c (placeIn pic (defCells pic c) c) (least-found (λ n. canTurn pic (getD (defCells pic c) n 0) c) (length (defCells pic c)))
-      (ltb (placeIn pic (defCells pic c) c) (length (defCells pic c))) refl
+      source-step (defCells pic c) c (firstMaker pic (defCells pic c) c) (least-found (λ n. canTurn pic (getD (defCells pic c) n 0) c) (length (defCells pic c)))
+      (ltb (firstMaker pic (defCells pic c) c) (length (defCells pic c))) refl
 
   pub turn-for : (c : ℕ) → (cellTurn pic c < 8) × (turnedInto (cellPixels pic (sourceOf pic c)) (cellPixels pic c) (cellTurn pic c) ≡ true)
   unfolding cellTurn sourceOf turnFor canMake
@@ -116,10 +116,10 @@ module _ (pic : List ℕ) where
   count-step ds c false = omega (arith, length-append ds (c ∷ []))
 
   pub counted : (c : ℕ) → length (defCells pic c) ≡ firsts (canTurn pic) c
-  unfolding defCells firsts placeIn
+  unfolding defCells firsts firstMaker
   counted zero = refl
   counted (suc c) =
-      count-step (defCells pic c) c (ltb (placeIn pic (defCells pic c) c) (length (defCells pic c)))
+      count-step (defCells pic c) c (ltb (firstMaker pic (defCells pic c) c) (length (defCells pic c)))
       ∙ ap₂ (λ (b : Bool) (m : ℕ). cond b m (suc m)) (old c) (counted c)
 
   -- the definition n was taken from a cell whose tile is n
@@ -131,7 +131,7 @@ module _ (pic : List ℕ) where
       snoc (λ n v. tileOf pic v ≡ n) ds c h (omega (arith, ltb-false (tileOf pic c) (length ds) e, w)) n l
 
   pub tile-of-def : (c n : ℕ) → n < length (defCells pic c) → tileOf pic (getD (defCells pic c) n 0) ≡ n
-  unfolding defCells tileOf placeIn
+  unfolding defCells tileOf firstMaker
   tile-of-def zero n l = absurd (not-suc-le-zero l)
   tile-of-def (suc c) n l =
       tile-step (defCells pic c) c (ltb (tileOf pic c) (length (defCells pic c))) refl

@@ -1,4 +1,4 @@
--- The listed cells: one more is listed with its flip, its mark and its slot; an empty slot means that none can be turned into
+-- The listed cells: one more is listed with its transpose, its mark and its slot; an empty slot means that none can be turned into
 -- a cell, and one that can is the only one, since two would be turned into each other.
 use mathlib.Core.Path.{_≡_, refl, sym, ap, _∙_, subst}
 use mathlib.Core.List.{List, []}
@@ -14,11 +14,11 @@ use Rattle.lists.specs.Search.{least}
 use Rattle.lists.proofs.Search.{below, least-found, least-here, least-none, not-both}
 use Rattle.pack_classes.specs.Turned.{turnFor, canMake}
 use Rattle.pack_classes.specs.Mark.{markOf}
-use Rattle.pack_classes.specs.Rows.{flipped}
+use Rattle.pack_classes.specs.Rows.{transposeOf}
 use Rattle.pack_classes.proofs.Cells.{can-both}
 use Rattle.pack_classes.proofs.Kept.{mark-made}
-use Rattle.packer.specs.declared.place.Place.{Place}
-use Rattle.packer.specs.Bounds.{Listed, Slotted, Named, Found}
+use Rattle.packer.specs.declared.cells.Match.{Match}
+use Rattle.packer.specs.Bounds.{Listed, Slotted, SlotTurn, Found}
 
 -- an element stored in each of two lists, of which the second is f of the first
 pub pair-more : {A B : Type 0} (f : A → B) (xs : List A) (ys : List B) (n : ℕ) (x d : A) (y e : B) → n < length xs → n < length ys
@@ -29,17 +29,17 @@ pair-more f xs ys n x d y e hx hy q h =
     (λ k l. getD-set-other ys n k y e (omega (arith, l)) ∙ h k l ∙ ap f (sym (getD-set-other xs n k x d (omega (arith, l)))))
     (getD-set-same ys n y e hy ∙ q ∙ ap f (sym (getD-set-same xs n x d hx)))
 
-pub listed-more : (pixels flips : List (List ℕ)) (marks : List ℕ) (n : ℕ) (cell over : List ℕ) (m : ℕ) → Listed pixels flips marks n → n < 256
-    → over ≡ flipped cell → m ≡ markOf cell → Listed (set pixels n cell) (set flips n over) (set marks n m) (n + 1)
-listed-more pixels flips marks n cell over m q l eo em =
+pub listed-more : (pixels transposes : List (List ℕ)) (marks : List ℕ) (n : ℕ) (cell transposed : List ℕ) (m : ℕ) → Listed pixels transposes marks n → n < 256
+    → transposed ≡ transposeOf cell → m ≡ markOf cell → Listed (set pixels n cell) (set transposes n transposed) (set marks n m) (n + 1)
+listed-more pixels transposes marks n cell transposed m q l eo em =
     let hp : n < length pixels = omega (arith, q .pixels-length) in
     rw (add-one n)
     (record {
       pixels-length = simp length-set (q .pixels-length);
-      flips-length = simp length-set (q .flips-length);
+      transposes-length = simp length-set (q .transposes-length);
       marks-length = simp length-set (q .marks-length);
       some-left = omega (arith, l);
-      flip-is = pair-more flipped pixels flips n cell [] over [] hp (omega (arith, q .flips-length)) eo (q .flip-is);
+      transpose-is = pair-more transposeOf pixels transposes n cell [] transposed [] hp (omega (arith, q .transposes-length)) eo (q .transpose-is);
       mark-is = pair-more markOf pixels marks n cell [] m 0 hp (omega (arith, q .marks-length)) em (q .mark-is);
     })
 
@@ -52,7 +52,7 @@ still-used slots s v i h l u = go (eqb i s) refl
     go false e = rw (getD-set-other slots s i v 0 (eqb-false i s e)) u
 
 -- no listed cell can be turned into a cell of this mark
-pub found-none : (pixels : List (List ℕ)) (cell : List ℕ) (n : ℕ) (p : Place) {m : ℕ} → (p .tile ≡ n) × (p .turn ≡ 0) × (p .mark ≡ m)
+pub found-none : (pixels : List (List ℕ)) (cell : List ℕ) (n : ℕ) (p : Match) {m : ℕ} → (p .tile ≡ n) × (p .turn ≡ 0) × (p .mark ≡ m)
     → n ≡ least (λ k. canMake (getD pixels k []) cell) n → m ≡ markOf cell → Found pixels cell n p
 found-none pixels cell n p e none em =
     record {
@@ -111,7 +111,7 @@ module _ (pixels : List (List ℕ)) (slots : List ℕ) (n : ℕ) (cell : List �
       go j h false f = refl
 
   -- and where a slot names it, it is what is found
-  pub found-by : (slot turn : ℕ) (p : Place) → Named pixels cell n slot turn → turn < 8 → p .tile ≡ slot - 1 → p .turn ≡ turn → p .mark ≡ markOf cell
+  pub found-by : (slot turn : ℕ) (p : Match) → SlotTurn pixels cell n slot turn → turn < 8 → p .tile ≡ slot - 1 → p .turn ≡ turn → p .mark ≡ markOf cell
       → Found pixels cell n p
   unfolding canMake turnFor
   found-by slot turn p m l et eu em =

@@ -12,13 +12,14 @@ use Rattle.lists.specs.Search.{least, some, firsts, different}
 use Rattle.lists.proofs.Search.{some-of, firsts-fewer}
 use Rattle.lists.specs.Tab.{tab}
 use Rattle.lists.proofs.Tab.{getD-tab}
+use Rattle.lists.specs.Bytes.{Bytes}
 use Rattle.tilemap.specs.Index.{columnOf, rowOf, halfOf}
 use Rattle.pack_classes.specs.Picture.{pixelOf, cellPixel, cellByte, cellPixels}
 use Rattle.pack_classes.specs.Turned.{canTurn, classes}
 use Rattle.pack_classes.proofs.Group.{column-small, row-small}
 use Rattle.pack_classes.proofs.Cells.{Shows, pixel-half, turned-is}
-use Rattle.packer.specs.Sheet.{lowByte, highByte, named, Bytes, sheetIndex}
-use Rattle.packer.specs.Greedy.{placeIn, defCells, tileCount, tileOf, sourceOf, cellTurn, mapByte, defByte, packedMap, packedDefs}
+use Rattle.packer.specs.Sheet.{lowByte, highByte, named, sheetIndex}
+use Rattle.packer.specs.Greedy.{firstMaker, defCells, tileCount, tileOf, sourceOf, cellTurn, mapByte, defByte, packedMap, packedDefs}
 use Rattle.packer.specs.Answer.{Fewest}
 use Rattle.packer.proofs.Banked.{read, bytes-append, bytes-one}
 use Rattle.packer.proofs.Lower.{Direct, direct, defPixel, lower}
@@ -61,7 +62,7 @@ module _ (pic : List ℕ) (fits : tileCount pic ≤ 256) where
 module _ (pic : List ℕ) (offset : ℕ) where
   -- the map names as many tiles as there are classes
   upper : firsts (λ i j. eqb (lowByte (packedMap pic offset) i) (lowByte (packedMap pic offset) j)) 1280 ≤ firsts (canTurn pic) 1280
-  unfolding tileOf placeIn
+  unfolding tileOf firstMaker
   upper =
       firsts-fewer (λ i j. eqb (lowByte (packedMap pic offset) i) (lowByte (packedMap pic offset) j)) (canTurn pic) 1280
       (λ j l e.

@@ -15,8 +15,8 @@ use Rattle.tilemap.specs.Index.{columnOf, rowOf}
 use Rattle.pack_classes.specs.Picture.{cellPixels}
 use Rattle.pack_classes.specs.Turned.{turnedInto, turnFor, canMake}
 use Rattle.pack_classes.proofs.Cells.{Shows, turned-of}
-use Rattle.packer.specs.declared.place.Place.{Place}
-use Rattle.packer.specs.Greedy.{placeIn, defCells, tileOf, sourceOf, cellTurn, mapByte}
+use Rattle.packer.specs.declared.cells.Match.{Match}
+use Rattle.packer.specs.Greedy.{firstMaker, defCells, tileOf, sourceOf, cellTurn, mapByte}
 use Rattle.packer.specs.Bounds.{Listed, Slotted, Found, Progress}
 use Rattle.packer.proofs.Listing.{pair-more}
 
@@ -48,23 +48,23 @@ entry-more f map c a b fits h ha hb i l =
     (eq-or-lt-of-le k'))
     (eq-or-lt-of-le w)
 
-module _ (pic : List ℕ) (offset : ℕ) (cells : List ℕ) (pixels flips : List (List ℕ)) (marks slots map : List ℕ) (n c : ℕ) (cell : List ℕ) (p : Place)
-    (g : Progress pic offset cells pixels flips marks slots map n c) (ec : cell ≡ cellPixels pic c) (here : Found pixels cell n p) where
+module _ (pic : List ℕ) (offset : ℕ) (cells : List ℕ) (pixels transposes : List (List ℕ)) (marks slots map : List ℕ) (n c : ℕ) (cell : List ℕ) (p : Match)
+    (g : Progress pic offset cells pixels transposes marks slots map n c) (ec : cell ≡ cellPixels pic c) (here : Found pixels cell n p) where
   source-is : (k : ℕ) → k < n → getD pixels k [] ≡ cellPixels pic (getD (defCells pic c) k 0)
-  source-is k l = g .taken k l ∙ ap (cellPixels pic) (g .placed .same k l)
+  source-is k l = g .taken k l ∙ ap (cellPixels pic) (g .packed .same k l)
 
   tile-is : p .tile ≡ tileOf pic c
-  unfolding tileOf placeIn
+  unfolding tileOf firstMaker
   tile-is =
       here .tile-is
       ∙ least-same (λ k. canMake (getD pixels k []) cell) (λ k. canMake (cellPixels pic (getD (defCells pic c) k 0)) (cellPixels pic c)) n
       (λ k l. ap₂ canMake (source-is k l) ec)
-      ∙ ap (least (λ k. canMake (cellPixels pic (getD (defCells pic c) k 0)) (cellPixels pic c))) (g .placed .count)
+      ∙ ap (least (λ k. canMake (cellPixels pic (getD (defCells pic c) k 0)) (cellPixels pic c))) (g .packed .count)
 
   turn-old : p .tile < n → p .turn ≡ cellTurn pic c
   unfolding cellTurn sourceOf
   turn-old l =
-      let t : tileOf pic c < length (defCells pic c) = omega (arith, l, tile-is, g .placed .count) in
+      let t : tileOf pic c < length (defCells pic c) = omega (arith, l, tile-is, g .packed .count) in
       here .turn-is l
       ∙ ap₂ turnFor
       (source-is (p .tile) l ∙ ap₂ (λ (ds : List ℕ) (k : ℕ). cellPixels pic (getD ds k 0)) (sym (defs-old pic c t)) tile-is) ec
@@ -72,8 +72,8 @@ module _ (pic : List ℕ) (offset : ℕ) (cells : List ℕ) (pixels flips : List
   turn-new : n ≤ p .tile → 0 ≡ cellTurn pic c
   unfolding cellTurn sourceOf turnFor Shows columnOf rowOf
   turn-new l =
-      let t : length (defCells pic c) ≤ tileOf pic c = omega (arith, l, tile-is, g .placed .count) in
-      let e : tileOf pic c ≡ length (defCells pic c) = omega (arith, t, tile-is, g .placed .count, here .tile-small) in
+      let t : length (defCells pic c) ≤ tileOf pic c = omega (arith, l, tile-is, g .packed .count) in
+      let e : tileOf pic c ≡ length (defCells pic c) = omega (arith, t, tile-is, g .packed .count, here .tile-small) in
       least-here (turnedInto (cellPixels pic c) (cellPixels pic c)) 8 0 (omega arith) (λ i k. absurd (not-suc-le-zero k)) (turned-of pic c c 0 (λ x y h k. refl))
       ∙ ap (λ (d : ℕ). turnFor (cellPixels pic d) (cellPixels pic c))
       (sym (ap₂ (λ (ds : List ℕ) (k : ℕ). getD ds k 0) (defs-new pic c t) e ∙ getD-append-seam (defCells pic c) c [] 0))
@@ -88,12 +88,12 @@ module _ (pic : List ℕ) (offset : ℕ) (cells : List ℕ) (pixels flips : List
 
   -- with an old definition
   pub step-old : (map′ : List ℕ) → map′ ≡ set (set map (c * 2) (p .tile)) (c * 2 + 1) (offset * 16 + p .turn * 2) → c < 1280 → p .tile < n
-      → Progress pic offset cells pixels flips marks slots map′ n (suc c)
+      → Progress pic offset cells pixels transposes marks slots map′ n (suc c)
   step-old map′ em lc l =
-      let t : tileOf pic c < length (defCells pic c) = omega (arith, l, tile-is, g .placed .count) in
-      let q = g .placed in
+      let t : tileOf pic c < length (defCells pic c) = omega (arith, l, tile-is, g .packed .count) in
+      let q = g .packed in
       record {
-        placed = record {
+        packed = record {
           cells-length = q .cells-length;
           map-length = rw em (simp length-set (q .map-length));
           some-left = q .some-left;
@@ -110,15 +110,15 @@ module _ (pic : List ℕ) (offset : ℕ) (cells : List ℕ) (pixels flips : List
       }
 
   -- with a new one
-  pub step-new : (pixels′ flips′ : List (List ℕ)) (marks′ slots′ map′ : List ℕ) → pixels′ ≡ set pixels n cell → Listed pixels′ flips′ marks′ (n + 1)
+  pub step-new : (pixels′ transposes′ : List (List ℕ)) (marks′ slots′ map′ : List ℕ) → pixels′ ≡ set pixels n cell → Listed pixels′ transposes′ marks′ (n + 1)
       → Slotted pixels′ slots′ (n + 1) → map′ ≡ set (set map (c * 2) n) (c * 2 + 1) (offset * 16) → c < 1280 → n ≤ p .tile → n < 256
-      → Progress pic offset (set cells n c) pixels′ flips′ marks′ slots′ map′ (suc n) (suc c)
-  step-new pixels′ flips′ marks′ slots′ map′ ep listed′ slotted′ em lc l f =
-      let t : length (defCells pic c) ≤ tileOf pic c = omega (arith, l, tile-is, g .placed .count) in
+      → Progress pic offset (set cells n c) pixels′ transposes′ marks′ slots′ map′ (suc n) (suc c)
+  step-new pixels′ transposes′ marks′ slots′ map′ ep listed′ slotted′ em lc l f =
+      let t : length (defCells pic c) ≤ tileOf pic c = omega (arith, l, tile-is, g .packed .count) in
       let e = defs-new pic c t in
-      let q = g .placed in
+      let q = g .packed in
       record {
-        placed = record {
+        packed = record {
           cells-length = simp length-set (q .cells-length);
           map-length = rw em (simp length-set (q .map-length));
           some-left = omega (arith, f);
@@ -144,19 +144,19 @@ module _ (pic : List ℕ) (offset : ℕ) (cells : List ℕ) (pixels flips : List
       }
 
   -- past the number allowed
-  pub step-over : n ≤ p .tile → n < length (defCells pic (suc c))
-  step-over l =
-      let t : length (defCells pic c) ≤ tileOf pic c = omega (arith, l, tile-is, g .placed .count) in
-      omega (arith, g .placed .count, ap length (defs-new pic c t), length-append (defCells pic c) (c ∷ []))
+  pub step-too-many : n ≤ p .tile → n < length (defCells pic (suc c))
+  step-too-many l =
+      let t : length (defCells pic c) ≤ tileOf pic c = omega (arith, l, tile-is, g .packed .count) in
+      omega (arith, g .packed .count, ap length (defs-new pic c t), length-append (defCells pic c) (c ∷ []))
 
 -- before the first cell
-pub start : (pic : List ℕ) (offset : ℕ) (cells : List ℕ) (pixels flips : List (List ℕ)) (marks slots map : List ℕ)
-    → length cells ≡ 256 → length pixels ≡ 256 → length flips ≡ 256 → length marks ≡ 256 → length slots ≡ 8192 → length map ≡ 2560
-    → Progress pic offset cells pixels flips marks slots map 0 0
+pub start : (pic : List ℕ) (offset : ℕ) (cells : List ℕ) (pixels transposes : List (List ℕ)) (marks slots map : List ℕ)
+    → length cells ≡ 256 → length pixels ≡ 256 → length transposes ≡ 256 → length marks ≡ 256 → length slots ≡ 8192 → length map ≡ 2560
+    → Progress pic offset cells pixels transposes marks slots map 0 0
 unfolding defCells
-start pic offset cells pixels flips marks slots map lc lp lf lm ls l =
+start pic offset cells pixels transposes marks slots map lc lp lf lm ls l =
     record {
-      placed = record {
+      packed = record {
         cells-length = lc;
         map-length = l;
         some-left = omega arith;
@@ -166,10 +166,10 @@ start pic offset cells pixels flips marks slots map lc lp lf lm ls l =
       };
       listed = record {
         pixels-length = lp;
-        flips-length = lf;
+        transposes-length = lf;
         marks-length = lm;
         some-left = omega arith;
-        flip-is = λ k h. absurd (not-suc-le-zero h);
+        transpose-is = λ k h. absurd (not-suc-le-zero h);
         mark-is = λ k h. absurd (not-suc-le-zero h);
       };
       slotted = record {

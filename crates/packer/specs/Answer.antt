@@ -5,11 +5,12 @@ use mathlib.Core.Bool.{cond, _&&_}
 use Prim.Native.Nat.{ℕ, _≤_}
 use lib.ListN.{length}
 use lib.Dec.{eqb, leb}
+use Rattle.lists.specs.Bytes.{Bytes}
 use Rattle.reply.specs.declared.Reply.{Reply}
 use Rattle.reply.specs.declared.Reply.the-variants.{Done, BufferLength, TooManyTiles, PackingBounds}
 use Rattle.reply.specs.Reply.{isDone}
 use Rattle.packer.specs.declared.Packing.{Packing}
-use Rattle.packer.specs.Sheet.{named, Bytes, SetIn, DrawsAlways, Draws}
+use Rattle.packer.specs.Sheet.{named, SetIn, DrawsAlways, Draws}
 use Rattle.packer.specs.Greedy.{tileCount, packedMap, packedDefs}
 
 -- 3, a lent buffer of the wrong length; 12, allowed above 256, or offset above 15

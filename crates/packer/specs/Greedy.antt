@@ -9,13 +9,13 @@ use Rattle.lists.specs.Search.{least}
 use Rattle.pack_classes.specs.Picture.{cellByte, cellPixels}
 use Rattle.pack_classes.specs.Turned.{turnFor, canTurn}
 
--- the place of the first of the cells ds that can be turned into cell c, or how many they are
-unfoldable pub placeIn : List ℕ → List ℕ → ℕ → ℕ
-placeIn pic ds c = least (λ n. canTurn pic (getD ds n 0) c) (length ds)
+-- the number, among the cells ds, of the first that can be turned into cell c, or how many they are
+unfoldable pub firstMaker : List ℕ → List ℕ → ℕ → ℕ
+firstMaker pic ds c = least (λ n. canTurn pic (getD ds n 0) c) (length ds)
 
 -- a cell that no earlier definition can be turned into becomes the next definition
 abbrev pub withCell : List ℕ → List ℕ → ℕ → List ℕ
-withCell pic ds c = cond (ltb (placeIn pic ds c) (length ds)) ds (ds ++ (c ∷ []))
+withCell pic ds c = cond (ltb (firstMaker pic ds c) (length ds)) ds (ds ++ (c ∷ []))
 
 -- cells are taken row by row: those below c that became definitions, in their order
 unfoldable pub defCells : List ℕ → ℕ → List ℕ
@@ -28,7 +28,7 @@ tileCount pic = length (defCells pic 1280)
 
 -- the tile number of cell c
 unfoldable pub tileOf : List ℕ → ℕ → ℕ
-tileOf pic c = placeIn pic (defCells pic c) c
+tileOf pic c = firstMaker pic (defCells pic c) c
 
 -- the cell that cell c's definition was taken from
 unfoldable pub sourceOf : List ℕ → ℕ → ℕ

@@ -6,6 +6,7 @@ use mathlib.Core.Bool.{true, false}
 use Prim.Native.Nat.{ℕ, _+_, _*_, _/_, _%_, _≤_, _<_}
 use lib.ListN.{length, getD, take, drop}
 use Rattle.lists.specs.Search.{different}
+use Rattle.lists.specs.Bytes.{Bytes}
 use Rattle.tilemap.specs.declared.rule.TileSetup.{TileSetup}
 use Rattle.tilemap.specs.Index.{turnOf, columnOf, rowOf, halfOf, indexOf, tileIndex}
 use Rattle.pack_classes.specs.Picture.{pixelOf}
@@ -33,10 +34,6 @@ sheetSetup attribute mapBase defBase = record {
   x = 0;
   y = 0;
 }
-
--- bytes
-abbrev pub Bytes : List ℕ → Type 0
-Bytes xs = (i : ℕ) → getD xs i 0 < 256
 
 -- set in a bank at any multiples of 256, sharing no byte and not running past 16,383
 pub record SetIn (map defs bank : List ℕ) (mapBase defBase : ℕ) : Type 0 where

@@ -1,4 +1,4 @@
-// Writing the map and the definitions of an accepted packing.
+// Writing the definitions of an accepted packing.
 ghost use mathlib.Core.Path.{_≡_};
 ghost use Prim.Native.Nat.{ℕ, _+_, _*_, _≤_, _<_};
 ghost use lib.ListN.{length, getD};
@@ -6,16 +6,7 @@ ghost use Rattle.lists.specs.Tab.{tab};
 ghost use Rattle.packer.specs.Greedy.{defCells, tileCount, defByte, packedDefs};
 use pack_classes::cell_bytes;
 
-pub fn copy(source: &[u8], target: &mut [u8])
-    requires { ⌜ length (now target) ≡ length (now source) ⌝ }
-    ensures { λ r. ⌜ now (target .exit) ≡ now (source .entry) ⌝ }
-{
-    for i in 0..source.len() {
-        target[i] = source[i];
-    }
-}
-
-fn clear(out: &mut [u8])
+fn zero(out: &mut [u8])
     ensures { λ r. ⌜ now (out .exit) ≡ tab (λ (i : ℕ). 0) (length (now (out .entry))) ⌝ }
 {
     for i in 0..out.len() {
@@ -32,7 +23,7 @@ fn write_definition(pic: &[u8], cells: &[usize], n: usize, d: usize, out: &mut [
         let c = cells[d];
         cell_bytes(pic, c, out);
     } else {
-        clear(out);
+        zero(out);
     }
 }
 

@@ -3,8 +3,8 @@
 ghost use mathlib.Core.Path.{_≡_};
 ghost use Rattle.packer.specs.Answer.{judged, answered, packAnswer, Packs};
 
+mod cells;
 mod definitions;
-mod place;
 mod sheet;
 
 use reply::Reply;

@@ -1,11 +1,11 @@
-// A picture's cells placed, and the sheet written where it is accepted.
+// A picture's cells packed, and the sheet written where it is accepted.
 ghost use mathlib.Core.Path.{_≡_};
 ghost use Prim.Native.Nat.{_≤_, _<_};
 ghost use lib.ListN.{length};
 ghost use Rattle.packer.specs.Bounds.{Counted, Written};
-use crate::definitions::copy;
+use crate::cells::pack_cells;
 use crate::definitions::write_definitions;
-use crate::place::place_cells;
+use lists::put;
 
 // How many definitions a picture takes, or one more than allowed.
 pub fn count(pic: &[u8], allowed: usize) -> usize
@@ -14,7 +14,7 @@ pub fn count(pic: &[u8], allowed: usize) -> usize
 {
     let mut cells = [0usize; 256];
     let mut entries = [0u8; 2560];
-    place_cells(pic, 0, allowed, &mut cells, &mut entries)
+    pack_cells(pic, 0, allowed, &mut cells, &mut entries)
 }
 
 // The same, and the map and the definitions are written unless there are too many.
@@ -24,11 +24,11 @@ pub fn write(pic: &[u8], allowed: usize, offset: usize, map: &mut [u8], defs: &m
 {
     let mut cells = [0usize; 256];
     let mut entries = [0u8; 2560];
-    let n = place_cells(pic, offset, allowed, &mut cells, &mut entries);
+    let n = pack_cells(pic, offset, allowed, &mut cells, &mut entries);
     if allowed < n {
         return n;
     }
-    copy(&entries, map);
+    put(map, 0, &entries);
     write_definitions(pic, &cells, n, defs);
     n
 }

@@ -1,4 +1,4 @@
--- `same_turn` compares with the flip where the turn rotates.
+-- `same_turn` compares with the transpose where the turn rotates.
 use Rattle.pack_classes.proofs.Rows.{turned-rows}
 use borrow.Author.Tests.{eq-eqb, ne-eqb}
 use mathlib.Core.Bool.{true, false}

@@ -22,8 +22,8 @@ cell-bytes-requires c κs = let s = c .before .before .before .before .before .b
     let b : getD (s .args .cells .now) d 0 < 1280 = rw (s .pre .4 d l) (cells-below (s .args .pic .now) 1280 d (omega (arith, l, s .pre .3))) in
     (s .pre .0, omega (arith, b, l, s .pre .2), s .pre .5)
 
-clear-requires : tie.Need-clear-requires
-clear-requires c κs = search needs
+zero-requires : tie.Need-zero-requires
+zero-requires c κs = search needs
 
 same-length : tie.Need-same-length
 same-length c = search needs
@@ -40,7 +40,7 @@ same-length-2 c = search needs
 returns-2 : tie.Need-returns-2
 returns-2 c = let s = c .before .before .before .before .before .before .before .before in
     let l : s .args .n ≤ s .args .d = omega arith in
-    c .before .before .clear .ensures ∙ unused (s .args .pic .now) (s .args .d) _ (omega (arith, l, s .pre .3)) (s .pre .5)
+    c .before .before .zero .ensures ∙ unused (s .args .pic .now) (s .args .d) _ (omega (arith, l, s .pre .3)) (s .pre .5)
 
 pub write-definition-spec : {M : Type 1} → statement M
 write-definition-spec =
@@ -49,7 +49,7 @@ write-definition-spec =
     mul-c
     shared-slice-read-c
     cell-bytes-requires
-    clear-requires
+    zero-requires
     same-length
     returns
     same-length-2

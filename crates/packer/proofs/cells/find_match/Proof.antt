@@ -1,4 +1,4 @@
--- The loop of `find_place`: no cell listed so far makes the cell.
+-- The loop of `find_match`: no cell listed so far makes the cell.
 use Rattle.packer.proofs.Listing.{found-none}
 use Rattle.pack_classes.specs.Turned.{canMake, turnFor}
 use Rattle.lists.proofs.Search.{least-here, least-none}
@@ -11,14 +11,14 @@ use Prim.Native.Nat.{ℕ, _≤_, _<_, _-_}
 use borrow.Author.Needs.{needs}
 use native.Mathlib.Omega.{arith}
 use mathlib.Core.Path.{_≡_}
-use Rattle.packer.proofs.place.find_place.Statement.{statement}
-use Rattle.packer.proofs.place.find_place.Tie as tie
+use Rattle.packer.proofs.cells.find_match.Statement.{statement}
+use Rattle.packer.proofs.cells.find_match.Tie as tie
 
 abbrev Inv-loop : tie.InvT-loop
-Inv-loop cell theirs pixels flips marks n k₀ k = (k ≤ n) × ((j : ℕ) → j < k → canMake (getD pixels j []) cell ≡ false)
+Inv-loop cell theirs pixels transposes marks n k₀ k = (k ≤ n) × ((j : ℕ) → j < k → canMake (getD pixels j []) cell ≡ false)
 
 abbrev μ-loop : tie.MeasureT-loop
-μ-loop cell theirs pixels flips marks n k₀ k = n - k
+μ-loop cell theirs pixels transposes marks n k₀ k = n - k
 
 loop-holds : tie.Need-loop-holds Inv-loop μ-loop
 loop-holds c = (search needs, below-none _)
@@ -45,7 +45,7 @@ turn-marked-requires : tie.Need-turn-marked-requires Inv-loop μ-loop
 turn-marked-requires c κs = let s = c .before .before .before .before .before .before in
     let k = c .before .before .before .before .loop .k in
     let l : k < s .args .n = omega arith in
-    (s .pre .1 .flip-is k l, s .pre .1 .mark-is k l, s .pre .0)
+    (s .pre .1 .transpose-is k l, s .pre .1 .mark-is k l, s .pre .0)
 
 returns : tie.Need-returns Inv-loop μ-loop
 unfolding canMake turnFor
@@ -70,14 +70,14 @@ unfolding canMake turnFor
 loop-again c = let h = c .before .before .before .before .before .before .loop in
     (search needs, below-more _ _ (h .inv .1) (le-ltb _ 8 (rw (c .before .turn-marked .ensures) at (c .if1 .left))))
 
-nowhere-requires : tie.Need-nowhere-requires Inv-loop μ-loop
-nowhere-requires c κs = search needs
+no-match-requires : tie.Need-no-match-requires Inv-loop μ-loop
+no-match-requires c κs = search needs
 
 returns-2 : tie.Need-returns-2 Inv-loop μ-loop
-returns-2 c = found-none _ _ _ _ (c .nowhere .ensures) (least-none _ _ (λ k l. c .before .before .loop .inv .1 k (omega (arith, l)))) (c .before .before .before .before .pre .0)
+returns-2 c = found-none _ _ _ _ (c .no-match .ensures) (least-none _ _ (λ k l. c .before .before .loop .inv .1 k (omega (arith, l)))) (c .before .before .before .before .pre .0)
 
-pub find-place-spec : {M : Type 1} → statement M
-find-place-spec =
+pub find-match-spec : {M : Type 1} → statement M
+find-match-spec =
     tie.close
     (tie.spec
     Inv-loop
@@ -94,5 +94,5 @@ find-place-spec =
     add-k
     loop-less
     loop-again
-    nowhere-requires
+    no-match-requires
     returns-2)

@@ -1,30 +1,30 @@
--- `list_cell` stores a cell with its flip, its mark and its slots.
+-- `list_cell` stores a cell with its transpose, its mark and its slots.
 use Rattle.packer.proofs.Listing.{listed-more, slotted-older, slotted-more}
 use native.Mathlib.Omega.{arith}
 use mathlib.Core.Path.{refl, ap}
 use Prim.Native.Nat.{ℕ, _%_}
 use lib.ListN.{length-set}
 use borrow.Author.Needs.{needs}
-use Rattle.packer.proofs.place.list_cell.Statement.{statement}
-use Rattle.packer.proofs.place.list_cell.Tie as tie
+use Rattle.packer.proofs.cells.list_cell.Statement.{statement}
+use Rattle.packer.proofs.cells.list_cell.Tie as tie
 
-slice-aggregate-flip : tie.Need-slice-aggregate-flip
-slice-aggregate-flip c = search needs
+slice-aggregate-transpose : tie.Need-slice-aggregate-transpose
+slice-aggregate-transpose c = search needs
 
-flip-requires : tie.Need-flip-requires
-flip-requires c κs = search needs
+transpose-requires : tie.Need-transpose-requires
+transpose-requires c κs = search needs
 
-mul-flips : tie.Need-mul-flips
-mul-flips c = search needs
+mul-transposes : tie.Need-mul-transposes
+mul-transposes c = search needs
 
-slice-set-from-flips : tie.Need-slice-set-from-flips
-slice-set-from-flips c = search needs
+slice-set-from-transposes : tie.Need-slice-set-from-transposes
+slice-set-from-transposes c = search needs
 
 mul-t17 : tie.Need-mul-t17
 mul-t17 c = search needs
 
-slice-set-from-flips-2 : tie.Need-slice-set-from-flips-2
-slice-set-from-flips-2 c = search needs
+slice-set-from-transposes-2 : tie.Need-slice-set-from-transposes-2
+slice-set-from-transposes-2 c = search needs
 
 mul-marks : tie.Need-mul-marks
 mul-marks c = search needs
@@ -75,18 +75,18 @@ same-length-4 : tie.Need-same-length-4
 same-length-4 c = search needs
 
 returns : tie.Need-returns
-returns c = let s = c .before .before .before .before .before .before .before .before in let a = s .args in let p = s .pre in (refl, listed-more (a .pixels .now) (a .flips .now) (a .marks .now) (a .n) (a .cell .now) _ (a .mark) (p .1) (p .3) (c .before .before .before .flip .ensures) (p .0), slotted-more (a .pixels .now) _ (a .n) (a .cell .now) (slotted-older (a .pixels .now) (a .slots .now) (a .n) _ _ (p .2)) _ _ (p .1 .pixels-length) (p .3) (ap (λ (m : ℕ). m % 4096) (p .0)) (omega arith) (p .4))
+returns c = let s = c .before .before .before .before .before .before .before .before in let a = s .args in let p = s .pre in (refl, listed-more (a .pixels .now) (a .transposes .now) (a .marks .now) (a .n) (a .cell .now) _ (a .mark) (p .1) (p .3) (c .before .before .before .transpose .ensures) (p .0), slotted-more (a .pixels .now) _ (a .n) (a .cell .now) (slotted-older (a .pixels .now) (a .slots .now) (a .n) _ _ (p .2)) _ _ (p .1 .pixels-length) (p .3) (ap (λ (m : ℕ). m % 4096) (p .0)) (omega arith) (p .4))
 
 pub list-cell-spec : {M : Type 1} → statement M
 list-cell-spec =
     tie.close
     (tie.spec
-    slice-aggregate-flip
-    flip-requires
-    mul-flips
-    slice-set-from-flips
+    slice-aggregate-transpose
+    transpose-requires
+    mul-transposes
+    slice-set-from-transposes
     mul-t17
-    slice-set-from-flips-2
+    slice-set-from-transposes-2
     mul-marks
     slice-write-marks
     cast-h

@@ -2,8 +2,8 @@
 use lib.ListN.{length-set}
 use native.Mathlib.Omega.{arith}
 use borrow.Author.Needs.{needs}
-use Rattle.packer.proofs.place.put_entry.Statement.{statement}
-use Rattle.packer.proofs.place.put_entry.Tie as tie
+use Rattle.packer.proofs.cells.put_entry.Statement.{statement}
+use Rattle.packer.proofs.cells.put_entry.Tie as tie
 
 cast-map : tie.Need-cast-map
 cast-map c = search needs

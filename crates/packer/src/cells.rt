@@ -1,5 +1,5 @@
-// Placing a picture's cells: each becomes an entry of the map, and some a definition. The cells that became definitions are
-// listed, unpacked and flipped, with their marks. A slot for each remainder of marks by 4,096 holds 1 + the latest of them with
+// Packing a picture's cells: each becomes an entry of the map, and some a definition. The cells that became definitions are
+// listed, unpacked and transposed, with their marks. A slot for each remainder of marks by 4,096 holds 1 + the latest of them with
 // such a mark, or 0, and the slot 4,096 further on the one before it.
 ghost use mathlib.Core.Path.{_≡_};
 ghost use mathlib.Core.List.{[]};
@@ -8,24 +8,24 @@ ghost use lib.ListN.{length, getD, set};
 ghost use Rattle.lists.specs.Search.{least};
 ghost use Rattle.pack_classes.specs.Turned.{canMake};
 ghost use Rattle.pack_classes.specs.Mark.{markOf};
-ghost use Rattle.packer.specs.Bounds.{Listed, Slotted, Named, Found, Placed, Progress, Stepped};
-use pack_classes::flip;
+ghost use Rattle.packer.specs.Bounds.{Listed, Slotted, SlotTurn, Found, PackedSoFar, Progress, Stepped};
 use pack_classes::mark;
+use pack_classes::transpose;
 use pack_classes::turn_marked;
 use pack_classes::unpack;
 
-// Where a cell's definition is, the turn that draws the cell, and the cell's mark.
-pub struct Place {
+// The definition that draws a cell, the turn by which it does, and the cell's mark.
+pub struct Match {
     pub tile: usize,
     pub turn: usize,
     pub mark: u32,
 }
 
 // None of the n listed cells can be turned into a cell of this mark.
-fn nowhere(n: usize, mark: u32) -> Place
+fn no_match(n: usize, mark: u32) -> Match
     ensures { λ r. ⌜ (r .tile ≡ n) × (r .turn ≡ 0) × (r .mark ≡ mark) ⌝ }
 {
-    Place {
+    Match {
         tile: n,
         turn: 0,
         mark,
@@ -33,28 +33,28 @@ fn nowhere(n: usize, mark: u32) -> Place
 }
 
 // The first of the n listed cells that can be turned into a cell, and the smallest turn that does so; or n, and 0.
-fn find_place(
+fn find_match(
     cell: &[u8; 64],
     theirs: u32,
     pixels: &[[u8; 64]],
-    flips: &[[u8; 64]],
+    transposes: &[[u8; 64]],
     marks: &[u32],
     n: usize,
-) -> Place
-    requires { ⌜ (theirs ≡ markOf (now cell)) × (Listed (now pixels) (now flips) (now marks) n) ⌝ }
+) -> Match
+    requires { ⌜ (theirs ≡ markOf (now cell)) × (Listed (now pixels) (now transposes) (now marks) n) ⌝ }
     ensures { λ r. ⌜ Found (now (pixels .entry)) (now (cell .entry)) n r ⌝ }
 {
     for k in 0..n {
-        let turn = turn_marked(&pixels[k], &flips[k], cell, marks[k], theirs);
+        let turn = turn_marked(&pixels[k], &transposes[k], cell, marks[k], theirs);
         if turn < 8 {
-            return Place {
+            return Match {
                 tile: k,
                 turn,
                 mark: theirs,
             };
         }
     }
-    nowhere(n, theirs)
+    no_match(n, theirs)
 }
 
 // The smallest turn by which the listed cell that a slot names makes a cell, or 8. A slot holds 1 + a listed cell's number, or 0.
@@ -62,13 +62,13 @@ fn slot_turn(
     cell: &[u8; 64],
     theirs: u32,
     pixels: &[[u8; 64]],
-    flips: &[[u8; 64]],
+    transposes: &[[u8; 64]],
     marks: &[u32],
     slot: usize,
     n: usize,
 ) -> usize
-    requires { ⌜ (theirs ≡ markOf (now cell)) × (Listed (now pixels) (now flips) (now marks) n) ⌝ }
-    ensures { λ r. ⌜ Named (now (pixels .entry)) (now (cell .entry)) n slot r ⌝ }
+    requires { ⌜ (theirs ≡ markOf (now cell)) × (Listed (now pixels) (now transposes) (now marks) n) ⌝ }
+    ensures { λ r. ⌜ SlotTurn (now (pixels .entry)) (now (cell .entry)) n slot r ⌝ }
 {
     if slot == 0 {
         return 8;
@@ -77,46 +77,46 @@ fn slot_turn(
         return 8;
     }
     let k = slot - 1;
-    turn_marked(&pixels[k], &flips[k], cell, marks[k], theirs)
+    turn_marked(&pixels[k], &transposes[k], cell, marks[k], theirs)
 }
 
-// What `find_place` finds, by the slots of the cell's mark: an empty one means that no listed cell can be turned into it, and the two latest
+// What `find_match` finds, by the slots of the cell's mark: an empty one means that no listed cell can be turned into it, and the two latest
 // with such a mark are tried before all others.
 fn locate(
     cell: &[u8; 64],
     pixels: &[[u8; 64]],
-    flips: &[[u8; 64]],
+    transposes: &[[u8; 64]],
     marks: &[u32],
     slots: &[u16],
     n: usize,
-) -> Place
-    requires { ⌜ (Listed (now pixels) (now flips) (now marks) n) × (Slotted (now pixels) (now slots) n) ⌝ }
+) -> Match
+    requires { ⌜ (Listed (now pixels) (now transposes) (now marks) n) × (Slotted (now pixels) (now slots) n) ⌝ }
     ensures { λ r. ⌜ Found (now (pixels .entry)) (now (cell .entry)) n r ⌝ }
 {
     let theirs = mark(cell);
     let h = (theirs % 4096) as usize;
     let latest = slots[h] as usize;
     if latest == 0 {
-        return nowhere(n, theirs);
+        return no_match(n, theirs);
     }
-    let first = slot_turn(cell, theirs, pixels, flips, marks, latest, n);
+    let first = slot_turn(cell, theirs, pixels, transposes, marks, latest, n);
     if first < 8 {
-        return Place {
+        return Match {
             tile: latest - 1,
             turn: first,
             mark: theirs,
         };
     }
     let older = slots[h + 4096] as usize;
-    let second = slot_turn(cell, theirs, pixels, flips, marks, older, n);
+    let second = slot_turn(cell, theirs, pixels, transposes, marks, older, n);
     if second < 8 {
-        return Place {
+        return Match {
             tile: older - 1,
             turn: second,
             mark: theirs,
         };
     }
-    find_place(cell, theirs, pixels, flips, marks, n)
+    find_match(cell, theirs, pixels, transposes, marks, n)
 }
 
 // Lists a cell that none of the n listed can be turned into.
@@ -124,18 +124,18 @@ fn list_cell(
     cell: &[u8; 64],
     mark: u32,
     pixels: &mut [[u8; 64]],
-    flips: &mut [[u8; 64]],
+    transposes: &mut [[u8; 64]],
     marks: &mut [u32],
     slots: &mut [u16],
     n: usize,
 )
-    requires { ⌜ (mark ≡ markOf (now cell)) × (Listed (now pixels) (now flips) (now marks) n) × (Slotted (now pixels) (now slots) n) × (n < 256) × (n ≡ least (λ k. canMake (getD (now pixels) k []) (now cell)) n) ⌝ }
-    ensures { λ r. ⌜ (now (pixels .exit) ≡ set (now (pixels .entry)) n (now (cell .entry))) × (Listed (now (pixels .exit)) (now (flips .exit)) (now (marks .exit)) (n + 1)) × (Slotted (now (pixels .exit)) (now (slots .exit)) (n + 1)) ⌝ }
+    requires { ⌜ (mark ≡ markOf (now cell)) × (Listed (now pixels) (now transposes) (now marks) n) × (Slotted (now pixels) (now slots) n) × (n < 256) × (n ≡ least (λ k. canMake (getD (now pixels) k []) (now cell)) n) ⌝ }
+    ensures { λ r. ⌜ (now (pixels .exit) ≡ set (now (pixels .entry)) n (now (cell .entry))) × (Listed (now (pixels .exit)) (now (transposes .exit)) (now (marks .exit)) (n + 1)) × (Slotted (now (pixels .exit)) (now (slots .exit)) (n + 1)) ⌝ }
 {
-    let mut over = [0u8; 64];
-    flip(cell, &mut over);
+    let mut transposed = [0u8; 64];
+    transpose(cell, &mut transposed);
     pixels[n] = *cell;
-    flips[n] = over;
+    transposes[n] = transposed;
     marks[n] = mark;
     let h = (mark % 4096) as usize;
     let older = slots[h];
@@ -152,29 +152,29 @@ fn put_entry(map: &mut [u8], c: usize, low: usize, high: usize)
     map[c * 2 + 1] = high as u8;
 }
 
-// Places cell c. The number of definitions then, or one more than allowed where there would be more.
-fn place_cell(
+// Packs cell c. The number of definitions then, or one more than allowed where there would be more.
+fn pack_cell(
     pic: &[u8],
     offset: usize,
     allowed: usize,
     cells: &mut [usize],
     pixels: &mut [[u8; 64]],
-    flips: &mut [[u8; 64]],
+    transposes: &mut [[u8; 64]],
     marks: &mut [u32],
     slots: &mut [u16],
     map: &mut [u8],
     n: usize,
     c: usize,
 ) -> usize
-    requires { ⌜ (length (now pic) ≡ 40960) × (offset < 16) × (allowed ≤ 256) × (n ≤ allowed) × (c < 1280) × (Progress (now pic) offset (now cells) (now pixels) (now flips) (now marks) (now slots) (now map) n c) ⌝ }
-    ensures { λ r. ⌜ (r ≤ allowed + 1) × (Stepped (Progress (now (pic .entry)) offset (now (cells .exit)) (now (pixels .exit)) (now (flips .exit)) (now (marks .exit)) (now (slots .exit)) (now (map .exit)) r (c + 1)) (now (pic .entry)) allowed r (c + 1)) ⌝ }
+    requires { ⌜ (length (now pic) ≡ 40960) × (offset < 16) × (allowed ≤ 256) × (n ≤ allowed) × (c < 1280) × (Progress (now pic) offset (now cells) (now pixels) (now transposes) (now marks) (now slots) (now map) n c) ⌝ }
+    ensures { λ r. ⌜ (r ≤ allowed + 1) × (Stepped (Progress (now (pic .entry)) offset (now (cells .exit)) (now (pixels .exit)) (now (transposes .exit)) (now (marks .exit)) (now (slots .exit)) (now (map .exit)) r (c + 1)) (now (pic .entry)) allowed r (c + 1)) ⌝ }
 {
     let mut cell = [0u8; 64];
     unpack(pic, c, &mut cell);
-    let p = locate(&cell, pixels, flips, marks, slots, n);
-    let tile = p.tile;
-    let turn = p.turn;
-    let ours = p.mark;
+    let m = locate(&cell, pixels, transposes, marks, slots, n);
+    let tile = m.tile;
+    let turn = m.turn;
+    let ours = m.mark;
     if tile < n {
         put_entry(map, c, tile, offset * 16 + turn * 2);
         return n;
@@ -183,13 +183,13 @@ fn place_cell(
         return allowed + 1;
     }
     cells[n] = c;
-    list_cell(&cell, ours, pixels, flips, marks, slots, n);
+    list_cell(&cell, ours, pixels, transposes, marks, slots, n);
     put_entry(map, c, n, offset * 16);
     n + 1
 }
 
-// Places the cells in their order. How many definitions there are, or one more than allowed where there would be more.
-pub fn place_cells(
+// Packs the cells in their order. How many definitions there are, or one more than allowed where there would be more.
+pub fn pack_cells(
     pic: &[u8],
     offset: usize,
     allowed: usize,
@@ -197,21 +197,21 @@ pub fn place_cells(
     map: &mut [u8],
 ) -> usize
     requires { ⌜ (length (now pic) ≡ 40960) × (offset < 16) × (allowed ≤ 256) × (length (now cells) ≡ 256) × (length (now map) ≡ 2560) ⌝ }
-    ensures { λ r. ⌜ (r ≤ allowed + 1) × (Stepped (Placed (now (pic .entry)) offset (now (cells .exit)) (now (map .exit)) r 1280) (now (pic .entry)) allowed r 1280) ⌝ }
+    ensures { λ r. ⌜ (r ≤ allowed + 1) × (Stepped (PackedSoFar (now (pic .entry)) offset (now (cells .exit)) (now (map .exit)) r 1280) (now (pic .entry)) allowed r 1280) ⌝ }
 {
     let mut pixels = [[0u8; 64]; 256];
-    let mut flips = [[0u8; 64]; 256];
+    let mut transposes = [[0u8; 64]; 256];
     let mut marks = [0u32; 256];
     let mut slots = [0u16; 8192];
     let mut n = 0;
     for c in 0..1280 {
-        n = place_cell(
+        n = pack_cell(
             pic,
             offset,
             allowed,
             cells,
             &mut pixels,
-            &mut flips,
+            &mut transposes,
             &mut marks,
             &mut slots,
             map,

@@ -2,8 +2,8 @@
 use native.Mathlib.Omega.{arith}
 use Prim.Native.Nat.{_<_, _-_}
 use borrow.Author.Needs.{needs}
-use Rattle.packer.proofs.place.slot_turn.Statement.{statement}
-use Rattle.packer.proofs.place.slot_turn.Tie as tie
+use Rattle.packer.proofs.cells.slot_turn.Statement.{statement}
+use Rattle.packer.proofs.cells.slot_turn.Tie as tie
 
 returns : tie.Need-returns
 returns c = search needs
@@ -33,7 +33,7 @@ shared-slice-read-turn-marked : tie.Need-shared-slice-read-turn-marked
 shared-slice-read-turn-marked c = search needs
 
 turn-marked-requires : tie.Need-turn-marked-requires
-turn-marked-requires c κs = let s = c .before .before .before .before .before .before in let k = s .args .slot - 1 in let l : k < s .args .n = omega arith in (s .pre .1 .flip-is k l, s .pre .1 .mark-is k l, s .pre .0)
+turn-marked-requires c κs = let s = c .before .before .before .before .before .before in let k = s .args .slot - 1 in let l : k < s .args .n = omega arith in (s .pre .1 .transpose-is k l, s .pre .1 .mark-is k l, s .pre .0)
 
 returns-3 : tie.Need-returns-3
 returns-3 c = search needs

@@ -1,14 +1,14 @@
--- The loop of `flip`: the first i pixels are right.
+-- The loop of `transpose`: the first i pixels are right.
 use Rattle.lists.proofs.Tab.{tab-none, tab-step, tab-done}
 use Rattle.lists.specs.Tab.{tab}
-use Rattle.pack_classes.specs.Rows.{flipped}
+use Rattle.pack_classes.specs.Rows.{transposeOf}
 use lib.ListN.{length, take, getD, length-set}
 use Prim.Native.Nat.{ℕ, _+_, _*_, _/_, _%_, _≤_, _-_}
 use borrow.Author.Needs.{needs}
 use native.Mathlib.Omega.{arith}
 use mathlib.Core.Path.{_≡_, refl}
-use Rattle.pack_classes.proofs.turns.flip.Statement.{statement}
-use Rattle.pack_classes.proofs.turns.flip.Tie as tie
+use Rattle.pack_classes.proofs.turns.transpose.Statement.{statement}
+use Rattle.pack_classes.proofs.turns.transpose.Tie as tie
 
 abbrev Inv-loop : tie.InvT-loop
 Inv-loop cell out₀ i₀ out i = (i ≤ 64) × (length out ≡ 64) × (take i out ≡ tab (λ (k : ℕ). getD cell (k % 8 * 8 + k / 8) 0) i)
@@ -44,11 +44,11 @@ same-length : tie.Need-same-length Inv-loop μ-loop
 same-length c = search needs
 
 returns : tie.Need-returns Inv-loop μ-loop
-unfolding flipped
+unfolding transposeOf
 returns c = let h = c .before .loop in let e : h .i ≡ 64 = omega arith in tab-done _ _ 64 (h .inv .1) (rw e at (h .inv .2))
 
-pub flip-spec : {M : Type 1} → statement M
-flip-spec =
+pub transpose-spec : {M : Type 1} → statement M
+transpose-spec =
     tie.close
     (tie.spec
     Inv-loop

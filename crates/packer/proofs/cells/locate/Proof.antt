@@ -1,12 +1,12 @@
 -- An empty slot: no listed cell makes the cell. A listed cell that a slot names is the only one, where it makes the cell. Else
--- `find_place` answers.
+-- `find_match` answers.
 use Rattle.packer.proofs.Listing.{found-none, made-by-none, found-by}
 use native.Mathlib.Omega.{arith}
 use mathlib.Core.Path.{refl}
 use Prim.Native.Nat.{_+_, _%_}
 use borrow.Author.Needs.{needs}
-use Rattle.packer.proofs.place.locate.Statement.{statement}
-use Rattle.packer.proofs.place.locate.Tie as tie
+use Rattle.packer.proofs.cells.locate.Statement.{statement}
+use Rattle.packer.proofs.cells.locate.Tie as tie
 
 mark-requires : tie.Need-mark-requires
 mark-requires c κs = search needs
@@ -23,14 +23,14 @@ shared-slice-read-latest c = search needs
 cast-latest : tie.Need-cast-latest
 cast-latest c = let m = c .before .mark .result in record { fits = omega (arith, c .shared-slice-known3 .given (m % 4096)) }
 
-nowhere-requires : tie.Need-nowhere-requires
-nowhere-requires c κs = search needs
+no-match-requires : tie.Need-no-match-requires
+no-match-requires c κs = search needs
 
 returns : tie.Need-returns
 returns c = let s = c .before .before .before .before .before .before .before in
     let a = s .args in
     let m = c .before .before .before .mark .ensures in
-    found-none _ _ _ _ (c .nowhere .ensures) (made-by-none (a .pixels .now) (a .slots .now) (a .n) (a .cell .now) (s .pre .1) _ m (c .before .if1 .taken)) m
+    found-none _ _ _ _ (c .no-match .ensures) (made-by-none (a .pixels .now) (a .slots .now) (a .n) (a .cell .now) (s .pre .1) _ m (c .before .if1 .taken)) m
 
 slot-turn-requires : tie.Need-slot-turn-requires
 slot-turn-requires c κs = search needs
@@ -62,8 +62,8 @@ sub-t23 c = omega (arith, c .before .slot-turn2 .ensures .listed (c .if3 .taken)
 returns-3 : tie.Need-returns-3
 returns-3 c = let s = c .before .before .before .before .before .before .before .before .before .before .before in let a = s .args in found-by (a .pixels .now) (a .slots .now) (a .n) (a .cell .now) (s .pre .1) _ _ _ (c .before .slot-turn2 .ensures) (c .if3 .taken) refl refl (c .before .before .before .before .before .before .before .mark .ensures)
 
-find-place-requires : tie.Need-find-place-requires
-find-place-requires c κs = search needs
+find-match-requires : tie.Need-find-match-requires
+find-match-requires c κs = search needs
 
 returns-4 : tie.Need-returns-4
 returns-4 c = search needs
@@ -77,7 +77,7 @@ locate-spec =
     mul-latest
     shared-slice-read-latest
     cast-latest
-    nowhere-requires
+    no-match-requires
     returns
     slot-turn-requires
     sub-t20
@@ -89,5 +89,5 @@ locate-spec =
     slot-turn-requires-2
     sub-t23
     returns-3
-    find-place-requires
+    find-match-requires
     returns-4)

@@ -1,4 +1,4 @@
--- The loop of `clear`: the first i bytes are 0.
+-- The loop of `zero`: the first i bytes are 0.
 use Rattle.lists.proofs.Tab.{tab-none, tab-step, tab-done}
 use Rattle.lists.specs.Tab.{tab}
 use lib.ListN.{length, take, length-set}
@@ -6,8 +6,8 @@ use Prim.Native.Nat.{ℕ, _≤_, _-_}
 use borrow.Author.Needs.{needs}
 use native.Mathlib.Omega.{arith}
 use mathlib.Core.Path.{_≡_, refl}
-use Rattle.packer.proofs.definitions.clear.Statement.{statement}
-use Rattle.packer.proofs.definitions.clear.Tie as tie
+use Rattle.packer.proofs.definitions.zero.Statement.{statement}
+use Rattle.packer.proofs.definitions.zero.Tie as tie
 
 abbrev Inv-loop : tie.InvT-loop
 Inv-loop out₀ i₀ i-end out i = (i ≤ length out₀) × (i-end ≡ length out₀) × (length out ≡ length out₀) × (take i out ≡ tab (λ (k : ℕ). 0) i)
@@ -39,8 +39,8 @@ returns c = let l = c .before .loop in
     let e : l .i ≡ n = omega arith in
     tab-done _ _ n (l .inv .2) (rw e at (l .inv .3))
 
-pub clear-spec : {M : Type 1} → statement M
-clear-spec =
+pub zero-spec : {M : Type 1} → statement M
+zero-spec =
     tie.close
     (tie.spec
     Inv-loop

@@ -1,11 +1,11 @@
--- Each way out of `place_cell` is a step of the packing.
-use Rattle.packer.proofs.Step.{step-old, step-new, step-over}
+-- Each way out of `pack_cell` is a step of the packing.
+use Rattle.packer.proofs.Step.{step-old, step-new, step-too-many}
 use native.Mathlib.Numerals.{add-one}
 use native.Mathlib.Omega.{arith}
 use mathlib.Core.Path.{_≡_, _∙_}
 use borrow.Author.Needs.{needs}
-use Rattle.packer.proofs.place.place_cell.Statement.{statement}
-use Rattle.packer.proofs.place.place_cell.Tie as tie
+use Rattle.packer.proofs.cells.pack_cell.Statement.{statement}
+use Rattle.packer.proofs.cells.pack_cell.Tie as tie
 
 slice-aggregate-unpack : tie.Need-slice-aggregate-unpack
 slice-aggregate-unpack c = search needs
@@ -52,8 +52,8 @@ returns c = let w = c .before .before .before .before in
       record {
         going = λ h.
             rw (add-one (a .c))
-            (step-old (a .pic .now) (a .offset) (a .cells .now) (a .pixels .now) (a .flips .now) (a .marks .now) (a .slots .now) (a .map .now) (a .n) (a .c) _ _ (p .5) (w .before .before .before .before .before .before .before .before .unpack .ensures) (w .before .locate .ensures) _ (c .before .before .put-entry .ensures) (p .4) (w .if1 .taken));
-        over = λ h. absurd (omega (arith, h, p .3));
+            (step-old (a .pic .now) (a .offset) (a .cells .now) (a .pixels .now) (a .transposes .now) (a .marks .now) (a .slots .now) (a .map .now) (a .n) (a .c) _ _ (p .5) (w .before .before .before .before .before .before .before .before .unpack .ensures) (w .before .locate .ensures) _ (c .before .before .put-entry .ensures) (p .4) (w .if1 .taken));
+        too-many = λ h. absurd (omega (arith, h, p .3));
       },
     )
 
@@ -76,11 +76,11 @@ returns-2 : tie.Need-returns-2
 returns-2 c = let s = c .before .before .before .before .before .before .before .before .before .before .before .before .before .before .before .before in
     let a = s .args in
     let p = s .pre in
-    let o = step-over (a .pic .now) (a .offset) (a .cells .now) (a .pixels .now) (a .flips .now) (a .marks .now) (a .slots .now) (a .map .now) (a .n) (a .c) _ _ (p .5) (c .before .before .before .before .before .before .before .before .before .unpack .ensures) (c .before .before .locate .ensures) (c .before .if1 .left) in (
+    let o = step-too-many (a .pic .now) (a .offset) (a .cells .now) (a .pixels .now) (a .transposes .now) (a .marks .now) (a .slots .now) (a .map .now) (a .n) (a .c) _ _ (p .5) (c .before .before .before .before .before .before .before .before .before .unpack .ensures) (c .before .before .locate .ensures) (c .before .if1 .left) in (
       omega arith,
       record {
         going = λ h. absurd (omega (arith, h));
-        over = λ h. rw (add-one (a .c)) (omega (arith, c .if2 .taken, o));
+        too-many = λ h. rw (add-one (a .c)) (omega (arith, c .if2 .taken, o));
       },
     )
 
@@ -102,7 +102,7 @@ mul-put-entry-3 c = search needs
 
 put-entry-requires-2 : tie.Need-put-entry-requires-2
 put-entry-requires-2 c κs = let p = c .before .before .before .before .before .before .before .before .before .before .before .before .before .before .before .before .before .before .before .before .before .before .before .before .before .before .before .before .before .pre in
-    (p .5 .placed .map-length, p .4, omega (arith, p .2, c .before .before .before .before .before .before .before .before .before .before .before .before .before .if2 .left), omega (arith, p .1))
+    (p .5 .packed .map-length, p .4, omega (arith, p .2, c .before .before .before .before .before .before .before .before .before .before .before .before .before .if2 .left), omega (arith, p .1))
 
 add-result-2 : tie.Need-add-result-2
 add-result-2 c = search needs
@@ -135,14 +135,14 @@ returns-3 c = let w = c .before .before .before .before .before .before .before 
       record {
         going = λ h.
             rw (add-one (a .c), add-one (a .n))
-            (step-new (a .pic .now) (a .offset) (a .cells .now) (a .pixels .now) (a .flips .now) (a .marks .now) (a .slots .now) (a .map .now) (a .n) (a .c) _ _ (p .5) (w .before .before .before .before .before .before .before .before .unpack .ensures) (w .before .locate .ensures) _ _ _ _ _ (e .0) (e .1) (e .2) (c .before .before .put-entry2 .ensures) (p .4)
+            (step-new (a .pic .now) (a .offset) (a .cells .now) (a .pixels .now) (a .transposes .now) (a .marks .now) (a .slots .now) (a .map .now) (a .n) (a .c) _ _ (p .5) (w .before .before .before .before .before .before .before .before .unpack .ensures) (w .before .locate .ensures) _ _ _ _ _ (e .0) (e .1) (e .2) (c .before .before .put-entry2 .ensures) (p .4)
             (w .if1 .left) (omega (arith, p .2, c .before .before .before .before .before .before .before .before .before .before .before .before .before .before .before .before .if2 .left)));
-        over = λ h. absurd (omega (arith, h, c .before .before .before .before .before .before .before .before .before .before .before .before .before .before .before .before .if2 .left));
+        too-many = λ h. absurd (omega (arith, h, c .before .before .before .before .before .before .before .before .before .before .before .before .before .before .before .before .if2 .left));
       },
     )
 
-pub place-cell-spec : {M : Type 1} → statement M
-place-cell-spec =
+pub pack-cell-spec : {M : Type 1} → statement M
+pack-cell-spec =
     tie.close
     (tie.spec
     slice-aggregate-unpack
