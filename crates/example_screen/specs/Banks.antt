@@ -1,4 +1,4 @@
--- The banks of the sample screen, byte by byte.
+-- The banks of the example screen, byte by byte.
 use Prim.Native.Nat.{ℕ, _+_, _-_, _*_, _/_, _%_, _^_}
 use mathlib.Core.List.{List, [], _∷_}
 use mathlib.Core.Bool.{Bool, cond, _&&_, _||_}
@@ -12,14 +12,14 @@ ulaByte at =
     (cond (ltb at 6912) (at % 32 / 4 + (at - 6144) / 32 / 3 * 8 + at % 32 / 2 % 2 * 64) 0)
 
 -- a cell that shows the letter
-abbrev pub named : ℕ → ℕ → Bool
-named row column =
+abbrev pub lettered : ℕ → ℕ → Bool
+lettered row column =
     (eqb (row / 4) 0 || eqb (row / 4) 3 || eqb (row / 4) 7) && leb 1 (row % 4) && leb 4 column && ltb column 36 && ltb (column % 4) 3
 
 -- an entry is tile 1 with turn t and palette offset t, one for each band of four columns from column 4 on; or tile 0
 unfoldable pub mapByte : ℕ → ℕ
 mapByte at =
-    cond (named (at / 80) (at % 80 / 2)) (cond (eqb (at % 2) 0) 1 ((at % 80 / 2 / 4 + 7) % 8 * 18)) 0
+    cond (lettered (at / 80) (at % 80 / 2)) (cond (eqb (at % 2) 0) 1 ((at % 80 / 2 / 4 + 7) % 8 * 18)) 0
 
 -- the letter F with a spot, on black, 4 bytes a row
 abbrev pub letter : List ℕ

@@ -1,4 +1,4 @@
--- The state of the sample screen: the reset state after these writes.
+-- The state of the example screen: the reset state after these writes.
 use Prim.Native.Nat.{ℕ, zero, suc, _+_, _*_, _%_}
 use mathlib.Core.List.{List, [], _∷_}
 use lib.ListN.{getD}
@@ -7,8 +7,8 @@ use Rattle.state.specs.Reset.{resetState}
 use Rattle.registers.specs.Registers.{writeRegister, writePort}
 
 -- the state after a write of a register
-abbrev pub put : State → ℕ → ℕ → State
-put s n v = writeRegister s n v .state
+abbrev pub afterWrite : State → ℕ → ℕ → State
+afterWrite s n v = writeRegister s n v .state
 
 -- the sixteen colours of a Spectrum as eight-bit colours: black, blue, red, magenta, green, cyan, yellow, white, and bright
 abbrev pub zxColours : List ℕ
@@ -21,18 +21,18 @@ zxColour i = getD zxColours (i % 16) 0
 -- $41: n colours from the index on
 unfoldable pub ulaPainted : State → ℕ → State
 ulaPainted s zero = s
-ulaPainted s (suc n) = put (ulaPainted s n) 0x41 (zxColour n)
+ulaPainted s (suc n) = afterWrite (ulaPainted s n) 0x41 (zxColour n)
 
 -- $40 and $41: two colours at index 1 of each of n palette offsets
 unfoldable pub tilePainted : State → ℕ → State
 tilePainted s zero = s
-tilePainted s (suc n) = put (put (put (tilePainted s n) 0x40 (n * 16 + 1)) 0x41 (zxColour (n % 7 + 9))) 0x41 0xFF
+tilePainted s (suc n) = afterWrite (afterWrite (afterWrite (tilePainted s n) 0x40 (n * 16 + 1)) 0x41 (zxColour (n % 7 + 9))) 0x41 0xFF
 
 -- $6B: tilemap on; $6E and $6F: map from 0, definitions from 4,096
 abbrev pub tilemapSet : State → State
-tilemapSet s = put (put (put s 0x6B 0x80) 0x6E 0) 0x6F 16
+tilemapSet s = afterWrite (afterWrite (afterWrite s 0x6B 0x80) 0x6E 0) 0x6F 16
 
 -- $14 out of the way, the colours, $43 to the tilemap's palette, the tilemap, and a blue border
-unfoldable pub sampleState : State
-sampleState =
-    writePort (tilemapSet (tilePainted (put (ulaPainted (put resetState 0x14 1) 32) 0x43 0x30) 8)) 0xFE 1 .state
+unfoldable pub exampleState : State
+exampleState =
+    writePort (tilemapSet (tilePainted (afterWrite (ulaPainted (afterWrite resetState 0x14 1) 32) 0x43 0x30) 8)) 0xFE 1 .state

@@ -1,9 +1,9 @@
-// The two banks of the sample.
+// The two banks of the example.
 ghost use mathlib.Core.Path.{_≡_};
 ghost use Prim.Native.Nat.{_<_};
 ghost use lib.ListN.{length};
 ghost use Rattle.lists.specs.Tab.{tab};
-ghost use Rattle.example_screen.specs.Banks.{ulaByte, mapByte, definitionByte, tileByte, named};
+ghost use Rattle.example_screen.specs.Banks.{ulaByte, mapByte, definitionByte, tileByte, lettered};
 
 // A letter F with a spot, on black; its last row and column are transparent.
 const LETTER: [u8; 32] = [
@@ -57,8 +57,8 @@ fn ula_byte(at: usize) -> u8
 }
 
 // Whether a cell shows the letter: three rows in each border and in the middle, in eight bands of three columns.
-fn is_named(row: usize, column: usize) -> bool
-    ensures { λ r. ⌜ r ≡ named row column ⌝ }
+fn is_lettered(row: usize, column: usize) -> bool
+    ensures { λ r. ⌜ r ≡ lettered row column ⌝ }
 {
     let band = row / 4;
     ((band == 0) | (band == 3) | (band == 7))
@@ -75,7 +75,7 @@ fn map_byte(at: usize) -> u8
 {
     let row = at / 80;
     let column = at % 80 / 2;
-    if is_named(row, column) {
+    if is_lettered(row, column) {
         let t = (column / 4 + 7) % 8;
         if at % 2 == 0 { 1 } else { (t * 18) as u8 }
     } else {
@@ -107,7 +107,7 @@ fn tile_byte(at: usize) -> u8
     }
 }
 
-pub fn sample_ula() -> [u8; 16384]
+pub fn example_ula() -> [u8; 16384]
     ensures { λ r. ⌜ r ≡ tab ulaByte 16384 ⌝ }
 {
     let mut bank = [0u8; 16384];
@@ -117,7 +117,7 @@ pub fn sample_ula() -> [u8; 16384]
     bank
 }
 
-pub fn sample_tiles() -> [u8; 16384]
+pub fn example_tiles() -> [u8; 16384]
     ensures { λ r. ⌜ r ≡ tab tileByte 16384 ⌝ }
 {
     let mut bank = [0u8; 16384];

@@ -3,6 +3,6 @@
 mod banks;
 mod registers_set;
 
-pub use banks::sample_tiles;
-pub use banks::sample_ula;
-pub use registers_set::sample_state;
+pub use banks::example_tiles;
+pub use banks::example_ula;
+pub use registers_set::example_state;

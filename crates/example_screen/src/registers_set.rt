@@ -1,11 +1,11 @@
-// The state of the sample, from reset by register writes.
+// The state of the example, from reset by register writes.
 ghost use mathlib.Core.Path.{_≡_};
 ghost use Prim.Native.Nat.{_<_};
-ghost use Rattle.example_screen.specs.Written.{put, zxColour, ulaPainted, tilePainted, tilemapSet, sampleState};
+ghost use Rattle.example_screen.specs.Written.{afterWrite, zxColour, ulaPainted, tilePainted, tilemapSet, exampleState};
 use state::State;
 
 fn set(s: State, number: u8, value: u8) -> State
-    ensures { λ r. ⌜ r ≡ put s number value ⌝ }
+    ensures { λ r. ⌜ r ≡ afterWrite s number value ⌝ }
 {
     let a = registers::write_register(s, number, value);
     a.state
@@ -72,8 +72,8 @@ fn set_tilemap(s: State) -> State
 }
 
 // Bright magenta is $E3, the transparent colour of a reset, so $14 is set to a colour that is not shown.
-pub fn sample_state() -> State
-    ensures { λ r. ⌜ r ≡ sampleState ⌝ }
+pub fn example_state() -> State
+    ensures { λ r. ⌜ r ≡ exampleState ⌝ }
 {
     let a = set(state::reset(), 0x14, 1);
     let b = paint_ula(a);

@@ -1,7 +1,7 @@
-// Whole files by name, for the programs. No contract can say what a file holds.
+// Whole files by name. No contract can say what a file holds.
 ghost use Prim.Native.Nat.{_≤_};
 ghost use lib.ListN.{length};
-ghost use Rattle.files.specs.Read.{within};
+ghost use Rattle.host.specs.Read.{within};
 
 // How many bytes of a file are in the buffer, or that it cannot be opened.
 pub enum Read {

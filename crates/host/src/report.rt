@@ -1,4 +1,4 @@
-// What the sample programs print with: words, numbers and line ends on standard output.
+// Words, numbers and line ends on standard output.
 use libc::STDOUT_FILENO;
 
 pub fn word(text: &[u8]) {

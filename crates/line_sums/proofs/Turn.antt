@@ -5,8 +5,8 @@ use mathlib.Core.List.{List}
 use native.Mathlib.Numerals.{add-one}
 use lib.ListN.{length, drop, getD, drop-of-length-le}
 use lib.Seq.{drop-cons}
-use Rattle.sums.specs.declared.Pair.{Pair}
-use Rattle.sums.specs.Adler.{dotAdded, allAdded}
+use Rattle.line_sums.specs.declared.adler.Pair.{Pair}
+use Rattle.line_sums.specs.Adler.{dotAdded, allAdded}
 
 -- what dot i does to the sums comes before what the rest does
 pub turn : (l : List ℕ) (i : ℕ) (s : Pair) → i < length l → allAdded (drop i l) s ≡ allAdded (drop (i + 1) l) (dotAdded s (getD l i 0))

@@ -1,7 +1,7 @@
 -- Adler-32, over numbers of two bytes, high first.
 use Prim.Native.Nat.{ℕ, _+_, _*_, _/_, _%_, _<_}
 use mathlib.Core.List.{List, [], _∷_}
-use Rattle.sums.specs.declared.Pair.{Pair}
+use Rattle.line_sums.specs.declared.adler.Pair.{Pair}
 
 -- one byte more: a is the sum of the bytes and 1, b the sum of the values of a, both mod 65,521
 abbrev pub added : Pair → ℕ → Pair

@@ -1,7 +1,7 @@
-// Adler-32 of a line, by which drawn lines are compared with outside pictures.
+// The Adler-32 of a line's dots.
 ghost use mathlib.Core.Path.{_≡_};
 ghost use Prim.Native.Nat.{_<_};
-ghost use Rattle.sums.specs.Adler.{added, dotAdded, lineSum, Small};
+ghost use Rattle.line_sums.specs.Adler.{added, dotAdded, lineSum, Small};
 
 // The two sums of Adler-32.
 pub struct Pair {

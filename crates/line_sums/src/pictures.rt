@@ -1,5 +1,8 @@
-// Whole pictures for the sample programs: a record and a bank by name, and the sums of the 256 lines that they draw.
-use files::Read;
+// A record and a bank by name, and the sums of the 256 lines that they draw.
+use crate::adler::line_sum;
+use host::files::Read;
+use host::files::read_file;
+use host::report;
 use state::State;
 use surface::LineNumber;
 
@@ -9,7 +12,7 @@ fn print_line(y: usize, ula: &[u8], tile: &[u8], s: State) {
     let r = line::draw(LineNumber(y), ula, tile, s, &mut dots);
     let n = reply::number(r);
     if n == 0 {
-        report::hex(sums::line_sum(&dots) as u64, 8);
+        report::hex(line_sum(&dots) as u64, 8);
         report::word(b"\n");
     } else {
         report::row(b"refused", n as u64);
@@ -37,7 +40,7 @@ fn print_case(record: &[u8], bank: &[u8]) {
 
 fn draw_from(record: &[u8], bank_path: &[u8]) {
     let mut bank = [0u8; 16385];
-    match files::read_file(bank_path, &mut bank) {
+    match read_file(bank_path, &mut bank) {
         Read::Bytes(n) => print_case(record, &bank[..n]),
         Read::Missing => report::word(b"no bank\n"),
     }
@@ -48,7 +51,7 @@ pub fn draw_case(record_path: &[u8], bank_path: &[u8]) {
     report::word(record_path);
     report::word(b"\n");
     let mut record = [0u8; 2151];
-    match files::read_file(record_path, &mut record) {
+    match read_file(record_path, &mut record) {
         Read::Bytes(n) => draw_from(&record[..n], bank_path),
         Read::Missing => report::word(b"no record\n"),
     }

@@ -1,4 +1,5 @@
 // The packing program: a picture on standard input, and one line, `tiles N` or `refused N`.
+use host::report;
 use libc::STDIN_FILENO;
 
 // All of standard input is the picture: one byte more than a picture has is enough to see that there are too many.

@@ -1,22 +1,23 @@
-// preview RECORD ULA-BANK TILE-BANK: the whole picture on standard output as a binary PPM; with no arguments, of the sample
-// screen. Nothing is written there before every line is known to draw; what is wrong is said on standard error.
+// preview RECORD ULA-BANK TILE-BANK: the whole picture on standard output as a binary PPM; with no arguments, of the
+// example screen. Nothing is written there before every line is known to draw; what is wrong is said on standard error.
 ghost use lib.ListN.{length};
-ghost use Rattle.files.specs.Read.{within};
+ghost use Rattle.host.specs.Read.{within};
 
 mod complaints;
 mod output;
 
-use files::Read;
+use host::files::Read;
+use host::files::read_file;
 
 // A buffer is one byte longer than its file must be, so that a longer file shows.
 const RECORD: usize = 2151;
 
 const BANK: usize = 16385;
 
-fn draw_sample() {
-    let ula = example_screen::sample_ula();
-    let tiles = example_screen::sample_tiles();
-    output::show(example_screen::sample_state(), &ula, &tiles);
+fn draw_example() {
+    let ula = example_screen::example_ula();
+    let tiles = example_screen::example_tiles();
+    output::show(example_screen::example_state(), &ula, &tiles);
 }
 
 fn draw_record(record: &[u8], ula: &[u8], tile: &[u8]) {
@@ -36,7 +37,7 @@ fn load(i: usize, buffer: &mut [u8]) -> Read
 {
     let mut path = io::buffer();
     let length = os::arg(i, &mut path);
-    let read = files::read_file(&path[..length], buffer);
+    let read = read_file(&path[..length], buffer);
     if let Read::Missing = read {
         complaints::missing(&path[..length]);
     }
@@ -67,7 +68,7 @@ fn load_record() {
 fn main() {
     let n = os::arg_count();
     if n <= 1 {
-        draw_sample();
+        draw_example();
         return;
     }
     if n == 4 {

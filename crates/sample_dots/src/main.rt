@@ -1,5 +1,5 @@
 // Draws what the outside cases do not reach: the stored sums are those of an independent implementation of document 01.
-use cases::draw_case;
+use line_sums::draw_case;
 
 fn first_half() {
     draw_case(b"timex_off.rec", b"bank");

@@ -1,7 +1,8 @@
 // One byte changed at a time: each bound at its edge and one past it; then records that are too short or too long.
 use crate::judged::judge;
 use crate::judged::judge_first;
-use files::read_file;
+use host::files::read_file;
+use host::report;
 
 fn print_place(name: &[u8], place: usize, byte: u8) {
     report::word(name);

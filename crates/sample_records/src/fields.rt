@@ -1,5 +1,6 @@
 // Each field of a state in the record's order, the first and the last of the 64 registers, and two colours of each palette.
-use files::read_file;
+use host::files::read_file;
+use host::report;
 use state::Palette;
 use state::Ports;
 use state::State;

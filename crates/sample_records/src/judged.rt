@@ -1,6 +1,7 @@
 // Bytes that are read as a record and written back.
-use files::Read;
-use files::read_file;
+use host::files::Read;
+use host::files::read_file;
+use host::report;
 use reply::Reply;
 use state::State;
 

@@ -1,4 +1,5 @@
 // Writing into targets of three lengths, from a lawful state and from one that is not.
+use host::report;
 
 // Whether every byte is still 85.
 fn untouched(target: &[u8]) -> bool {

@@ -1,5 +1,6 @@
 // A drawing asked for, and its answer printed.
 ghost use Prim.Native.Nat.{_≤_};
+use host::report;
 use state::State;
 use surface::LineNumber;
 

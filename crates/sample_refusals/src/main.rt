@@ -5,6 +5,7 @@ mod states;
 
 use asked::ask;
 use asked::ask_lengths;
+use host::report;
 
 fn print_samples() {
     ask(b"line 255", 255, states::plain());

@@ -1,10 +1,12 @@
 // Runs the script `script`, from the reset state on, and prints what each entry is answered. An entry is four bytes: its
 // kind, a number, high first, and a value.
-use files::Read;
+use host::files::Read;
+use host::files::read_file;
+use host::report;
+use host::report::word;
 use lists::u16_of;
 use register_answers::Reading;
 use reply::Reply;
-use report::word;
 use state::Answer;
 use state::State;
 
@@ -105,7 +107,7 @@ fn run(script: &[u8]) {
 
 fn main() {
     let mut buffer = io::buffer();
-    match files::read_file(b"script", &mut buffer) {
+    match read_file(b"script", &mut buffer) {
         Read::Bytes(n) => run(&buffer[..n]),
         Read::Missing => word(b"no script\n"),
     }

@@ -1,18 +1,11 @@
 // A map and definitions set in a bank, and drawn by the tilemap's rule.
 ghost use mathlib.Core.Path.{_≡_};
-ghost use Prim.Native.Nat.{_+_, _≤_, _<_};
+ghost use Prim.Native.Nat.{_<_};
 ghost use lib.ListN.{length};
 ghost use Rattle.tilemap.specs.Bounds.{SetupBounds};
+use lists::put;
 use lists::usize_of;
 use tilemap::TileSetup;
-
-fn set(bank: &mut [u8], at: usize, part: &[u8])
-    requires { ⌜ at + length (now part) ≤ length (now bank) ⌝ }
-{
-    for i in 0..part.len() {
-        bank[at + i] = part[i];
-    }
-}
 
 // The index at pixel i of 81,920 is that of the picture, with palette offset 0.
 fn is_right(picture: &[u8], bank: &[u8], t: TileSetup, i: usize) -> bool
@@ -40,8 +33,8 @@ pub fn differ(picture: &[u8], map: &[u8], definitions: &[u8]) -> u64
     requires { ⌜ (length (now picture) ≡ 40960) × (length (now map) ≡ 2560) × (length (now definitions) ≡ 8192) ⌝ }
 {
     let mut bank = [0u8; 16384];
-    set(&mut bank, 0, definitions);
-    set(&mut bank, 13824, map);
+    put(&mut bank, 0, definitions);
+    put(&mut bank, 13824, map);
     let t = TileSetup {
         columns80: false,
         single: false,

@@ -6,14 +6,16 @@ mod drawn;
 mod named;
 
 use drawn::differ;
-use files::Read;
+use host::files::Read;
+use host::files::read_file;
+use host::report;
 use named::named;
 
 // How many bytes of a file came, 0 where there is none.
 fn bytes_of(path: &[u8], buffer: &mut [u8]) -> usize
     ensures { λ r. ⌜ Counts r (now (buffer .exit)) ⌝ }
 {
-    let read = files::read_file(path, buffer);
+    let read = read_file(path, buffer);
     match read {
         Read::Bytes(n) => n,
         Read::Missing => 0,

@@ -1,4 +1,5 @@
 // The fields of a state in the record's order.
+use host::report;
 use state::Palette;
 use state::Ports;
 use state::State;

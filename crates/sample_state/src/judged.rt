@@ -1,4 +1,5 @@
 // The reset state with one field changed, judged. A field has its own function, so that no caller holds a whole state.
+use host::report;
 use state::State;
 
 fn judge(label: &[u8], s: State) {

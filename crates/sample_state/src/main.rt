@@ -3,6 +3,7 @@ mod edges;
 mod fields;
 mod judged;
 
+use host::report;
 use reply::number;
 
 fn print_screen(colour: u32) {

@@ -1,5 +1,5 @@
 // Draws the cases of an outside emulator: the stored sums are that emulator's, one for each line of each case.
-use cases::draw_case;
+use line_sums::draw_case;
 
 fn first_half() {
     draw_case(b"00.rec", b"00.bank");

@@ -1,8 +1,8 @@
 -- The bytes told by `read_file` are within the buffer.
 use lib.ListN.{length}
 use Prim.Native.Nat.{_≤_}
-use Rattle.files.specs.declared.Read.{Read}
-use Rattle.files.specs.Read.{within}
+use Rattle.host.specs.declared.files.Read.{Read}
+use Rattle.host.specs.Read.{within}
 use lib.Seq.{length-take-le}
 use mathlib.Core.Path.{subst, sym}
 use borrow.Author.Needs.{needs}

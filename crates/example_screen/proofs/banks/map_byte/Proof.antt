@@ -1,4 +1,4 @@
--- `map_byte` chooses by what `is_named` answers and by the place in the entry.
+-- `map_byte` chooses by what `is_lettered` answers and by the place in the entry.
 use mathlib.Core.Path.{sym, _∙_}
 use borrow.Author.Tests.{eq-eqb, ne-eqb}
 use Rattle.example_screen.specs.Banks.{mapByte}
@@ -6,8 +6,8 @@ use borrow.Author.Needs.{needs}
 use Rattle.example_screen.proofs.banks.map_byte.Statement.{statement}
 use Rattle.example_screen.proofs.banks.map_byte.Tie as tie
 
-is-named-requires : tie.Need-is-named-requires
-is-named-requires c κs = search needs
+is-lettered-requires : tie.Need-is-lettered-requires
+is-lettered-requires c κs = search needs
 
 add-t : tie.Need-add-t
 add-t c = search needs
@@ -20,16 +20,16 @@ cast-result c = search needs
 
 returns : tie.Need-returns
 unfolding mapByte
-returns c = rw (sym (c .before .before .is-named .ensures) ∙ c .before .if1 .taken, eq-eqb _ _ (c .if2 .taken))
+returns c = rw (sym (c .before .before .is-lettered .ensures) ∙ c .before .if1 .taken, eq-eqb _ _ (c .if2 .taken))
 
 returns-2 : tie.Need-returns-2
 unfolding mapByte
-returns-2 c = rw (sym (c .before .before .is-named .ensures) ∙ c .before .if1 .taken, ne-eqb _ _ (c .if2 .left))
+returns-2 c = rw (sym (c .before .before .is-lettered .ensures) ∙ c .before .if1 .taken, ne-eqb _ _ (c .if2 .left))
 
 returns-3 : tie.Need-returns-3
 unfolding mapByte
-returns-3 c = rw (sym (c .before .is-named .ensures) ∙ c .if1 .left)
+returns-3 c = rw (sym (c .before .is-lettered .ensures) ∙ c .if1 .left)
 
 pub map-byte-spec : {M : Type 1} → statement M
 map-byte-spec =
-    tie.close (tie.spec is-named-requires add-t mul-result cast-result returns returns-2 returns-3)
+    tie.close (tie.spec is-lettered-requires add-t mul-result cast-result returns returns-2 returns-3)

@@ -1,8 +1,8 @@
--- `sample_state` is the writes of its definition, one after the other.
-use Rattle.example_screen.specs.Written.{sampleState}
+-- `example_state` is the writes of its definition, one after the other.
+use Rattle.example_screen.specs.Written.{exampleState}
 use borrow.Author.Needs.{needs}
-use Rattle.example_screen.proofs.registers_set.sample_state.Statement.{statement}
-use Rattle.example_screen.proofs.registers_set.sample_state.Tie as tie
+use Rattle.example_screen.proofs.registers_set.example_state.Statement.{statement}
+use Rattle.example_screen.proofs.registers_set.example_state.Tie as tie
 
 reset-requires : tie.Need-reset-requires
 reset-requires c κs = search needs
@@ -26,11 +26,11 @@ write-port-requires : tie.Need-write-port-requires
 write-port-requires c κs = search needs
 
 returns : tie.Need-returns
-unfolding sampleState
+unfolding exampleState
 returns c = rw (c .before .write-port .ensures, c .before .before .set-tilemap .ensures, c .before .before .before .paint-tiles .ensures, c .before .before .before .before .set2 .ensures, c .before .before .before .before .before .paint-ula .ensures, c .before .before .before .before .before .before .set .ensures, c .before .before .before .before .before .before .before .reset .ensures)
 
-pub sample-state-spec : {M : Type 1} → statement M
-sample-state-spec =
+pub example-state-spec : {M : Type 1} → statement M
+example-state-spec =
     tie.close
     (tie.spec
     reset-requires

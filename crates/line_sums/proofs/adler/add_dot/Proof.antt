@@ -1,8 +1,8 @@
 -- A dot is its high byte and then its low one.
 use mathlib.Core.Path.{_∙_}
 use borrow.Author.Needs.{needs}
-use Rattle.sums.proofs.add_dot.Statement.{statement}
-use Rattle.sums.proofs.add_dot.Tie as tie
+use Rattle.line_sums.proofs.adler.add_dot.Statement.{statement}
+use Rattle.line_sums.proofs.adler.add_dot.Tie as tie
 
 u32-of-requires : tie.Need-u32-of-requires
 u32-of-requires c κs = search needs

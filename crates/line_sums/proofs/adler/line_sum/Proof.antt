@@ -1,13 +1,13 @@
 -- The loop of `line_sum`: the sums so far and the dots left give the sums of the line.
-use Rattle.sums.proofs.Turn.{turn, ended}
-use Rattle.sums.specs.Adler.{allAdded, joined, lineSum, Small}
+use Rattle.line_sums.proofs.Turn.{turn, ended}
+use Rattle.line_sums.specs.Adler.{allAdded, joined, lineSum, Small}
 use borrow.Author.Needs.{needs}
 use native.Mathlib.Omega.{arith}
 use mathlib.Core.Path.{_≡_, refl, sym, ap, _∙_}
 use Prim.Native.Nat.{_+_, _-_, _≤_, _<_}
 use lib.ListN.{length, drop}
-use Rattle.sums.proofs.line_sum.Statement.{statement}
-use Rattle.sums.proofs.line_sum.Tie as tie
+use Rattle.line_sums.proofs.adler.line_sum.Statement.{statement}
+use Rattle.line_sums.proofs.adler.line_sum.Tie as tie
 
 abbrev Inv-loop : tie.InvT-loop
 Inv-loop dots s₀ i₀ i-end s i = (i ≤ i-end) × (i-end ≡ length dots) × (Small s) × (allAdded (drop i dots) s ≡ allAdded dots s₀)

@@ -3,8 +3,8 @@ use native.Mathlib.Omega.{arith}
 use lib.Seq.{length-take-le}
 use mathlib.Core.Path.{sym}
 use borrow.Author.Needs.{needs}
-use Rattle.cases.proofs.draw_case.Statement.{statement}
-use Rattle.cases.proofs.draw_case.Tie as tie
+use Rattle.line_sums.proofs.pictures.draw_case.Statement.{statement}
+use Rattle.line_sums.proofs.pictures.draw_case.Tie as tie
 
 word-requires : tie.Need-word-requires
 word-requires c κs = search needs

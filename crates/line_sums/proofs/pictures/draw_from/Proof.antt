@@ -3,8 +3,8 @@ use native.Mathlib.Omega.{arith}
 use lib.Seq.{length-take-le}
 use mathlib.Core.Path.{sym}
 use borrow.Author.Needs.{needs}
-use Rattle.cases.proofs.draw_from.Statement.{statement}
-use Rattle.cases.proofs.draw_from.Tie as tie
+use Rattle.line_sums.proofs.pictures.draw_from.Statement.{statement}
+use Rattle.line_sums.proofs.pictures.draw_from.Tie as tie
 
 slice-aggregate-read-file : tie.Need-slice-aggregate-read-file
 slice-aggregate-read-file c = search needs

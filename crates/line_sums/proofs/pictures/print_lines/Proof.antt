@@ -1,8 +1,8 @@
 -- The loop of `print_lines` ends: the line number stays at most 256.
 use borrow.Author.Needs.{needs}
 use Prim.Native.Nat.{_-_, _≤_}
-use Rattle.cases.proofs.print_lines.Statement.{statement}
-use Rattle.cases.proofs.print_lines.Tie as tie
+use Rattle.line_sums.proofs.pictures.print_lines.Statement.{statement}
+use Rattle.line_sums.proofs.pictures.print_lines.Tie as tie
 
 abbrev Inv-loop : tie.InvT-loop
 Inv-loop ula tile s y₀ y = y ≤ 256
