@@ -110,7 +110,7 @@ module _ (pixels : List (List ℕ)) (slots : List ℕ) (n : ℕ) (cell : List �
       go j h true f = absurd (not-both (can-both (getD pixels j []) (getD pixels k []) cell f e) (q .apart j k h l))
       go j h false f = refl
 
-  -- and where a slot names it, it is what is found
+  -- and where a slot holds it, it is what is found
   pub found-by : (slot turn : ℕ) (p : Match) → SlotTurn pixels cell n slot turn → turn < 8 → p .tile ≡ slot - 1 → p .turn ≡ turn → p .mark ≡ markOf cell
       → Found pixels cell n p
   unfolding canMake turnFor

@@ -27,7 +27,7 @@ pub record Slotted (pixels : List (List ℕ)) (slots : List ℕ) (n : ℕ) : Typ
   pub used : (k : ℕ) → k < n → 0 < getD slots (markOf (getD pixels k []) % 4096) 0
   pub apart : (j k : ℕ) → j < k → k < n → canMake (getD pixels j []) (getD pixels k []) ≡ false
 
--- a turn below 8 makes a cell of the listed cell that a slot names
+-- a turn below 8 makes a cell of a slot's listed cell
 pub record SlotTurn (pixels : List (List ℕ)) (cell : List ℕ) (n slot turn : ℕ) : Type 0 where
   pub listed : turn < 8 → (0 < slot) × (slot ≤ n)
   pub turn-is : turn < 8 → turn ≡ turnFor (getD pixels (slot - 1) []) cell

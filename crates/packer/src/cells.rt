@@ -57,7 +57,7 @@ fn find_match(
     no_match(n, theirs)
 }
 
-// The smallest turn by which the listed cell that a slot names makes a cell, or 8. A slot holds 1 + a listed cell's number, or 0.
+// The smallest turn by which the listed cell of a slot makes a cell, or 8. A slot holds 1 + a listed cell's number, or 0.
 fn slot_turn(
     cell: &[u8; 64],
     theirs: u32,

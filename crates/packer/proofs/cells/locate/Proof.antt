@@ -1,4 +1,4 @@
--- An empty slot: no listed cell makes the cell. A listed cell that a slot names is the only one, where it makes the cell. Else
+-- An empty slot: no listed cell makes the cell. A listed cell that a slot holds is the only one, where it makes the cell. Else
 -- `find_match` answers.
 use Rattle.packer.proofs.Listing.{found-none, made-by-none, found-by}
 use native.Mathlib.Omega.{arith}

@@ -1,4 +1,4 @@
--- A slot that names a listed cell is answered by `turn_marked`, any other by 8.
+-- A slot that holds a listed cell is answered by `turn_marked`, any other by 8.
 use native.Mathlib.Omega.{arith}
 use Prim.Native.Nat.{_<_, _-_}
 use borrow.Author.Needs.{needs}
