@@ -10,8 +10,8 @@ use Rattle.state.specs.Lawful.{lawfulState}
 use Rattle.register_answers.specs.declared.Reading.{Reading}
 
 -- 10, value outside its bounds: leaves the state, held half too
-abbrev pub within : Bool → State → State → Answer
-within ok changed s = cond ok (done changed) (refused OutOfBounds s)
+abbrev pub ifFits : Bool → State → State → Answer
+ifFits ok changed s = cond ok (done changed) (refused OutOfBounds s)
 
 -- a read that is done gives a byte
 abbrev pub given : ℕ → Reading

@@ -2,7 +2,7 @@
 ghost use mathlib.Core.Path.{_≡_};
 ghost use Rattle.reply.specs.declared.Reply.the-variants.{NoRegister};
 ghost use Rattle.state.specs.Answer.{done, refused};
-ghost use Rattle.register_answers.specs.Answers.{within, given, unread};
+ghost use Rattle.register_answers.specs.Answers.{ifFits, given, unread};
 use reply::Reply;
 use state::Answer;
 use state::State;
@@ -23,8 +23,8 @@ pub fn accept(s: State) -> Answer
 }
 
 // The changed state where the value is within its bounds, else the state as it was.
-pub fn bounded(ok: bool, changed: State, s: State) -> Answer
-    ensures { λ r. ⌜ r ≡ within ok changed s ⌝ }
+pub fn if_fits(ok: bool, changed: State, s: State) -> Answer
+    ensures { λ r. ⌜ r ≡ ifFits ok changed s ⌝ }
 {
     if ok {
         accept(changed)

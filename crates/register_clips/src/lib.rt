@@ -2,7 +2,7 @@
 ghost use mathlib.Core.Path.{_≡_};
 ghost use Rattle.register_clips.specs.Clips.{ulaClipWritten, tileClipWritten, restarted, turnsWritten, clipNext, turnsRead};
 use register_answers::accept;
-use register_answers::bounded;
+use register_answers::if_fits;
 use state::Answer;
 use state::State;
 
@@ -49,7 +49,7 @@ pub fn write_turns(s: State, value: u8) -> Answer
     let mut t = s;
     t.turns.ula = ula;
     t.turns.tiles = tiles;
-    bounded(ok, t, s)
+    if_fits(ok, t, s)
 }
 
 pub fn ula_clip_next(s: State) -> u8

@@ -10,7 +10,7 @@ use Rattle.state.specs.declared.State.{State}
 use Rattle.state.specs.declared.Answer.{Answer}
 use Rattle.state.specs.Answer.{refused}
 use Rattle.state.specs.Lawful.{lawfulState}
-use Rattle.register_answers.specs.Answers.{within, unread, writeLawful}
+use Rattle.register_answers.specs.Answers.{ifFits, unread, writeLawful}
 use Rattle.register_answers.specs.Rows.{writeBy, readBy}
 use Rattle.register_ports.specs.Ports.{portWrites, portReads}
 use Rattle.registers.specs.Registers.{registerWrites, registerReads, writeRegister, writePort, readRegister, readPort}
@@ -36,7 +36,7 @@ not-done : {A : Type 0} (r : Reply) → r ≡ NotLawful → r ≡ Done → A
 not-done r e h = let z : _≡_ {A = ℕ} 0 1 = cc in absurd (omega arith)
 
 -- an accepted write that is judged has changed the state
-pub accepted : (ok : Bool) (t s : State) → within ok t s .reply ≡ Done → within ok t s .state ≡ t
+pub accepted : (ok : Bool) (t s : State) → ifFits ok t s .reply ≡ Done → ifFits ok t s .state ≡ t
 accepted true t s h = refl
 accepted false t s h = let z : _≡_ {A = ℕ} 0 1 = cc in absurd (omega arith)
 

@@ -18,10 +18,10 @@ use Rattle.state.specs.Bits.{timexOn}
 use Rattle.state.specs.Bounds.{isMask, isChoice}
 use Rattle.state.specs.Lawful.{lawfulState}
 use Rattle.state.specs.With.{withPalette, withTurns}
-use Rattle.register_answers.specs.Answers.{within, given, writeLawful}
+use Rattle.register_answers.specs.Answers.{ifFits, given, writeLawful}
 use Rattle.register_answers.specs.Rows.{WriteRow, writeBy, readBy}
 use Rattle.register_clips.specs.Clips.{ulaClipWritten, tileClipWritten, restarted}
-use Rattle.register_palettes.specs.Palettes.{paletteAt, written, colourAt, indexWritten, eightWritten, controlWritten}
+use Rattle.register_palettes.specs.Palettes.{paletteAt, paletteChoice, colourAt, indexWritten, eightWritten, controlWritten}
 use Rattle.register_ports.specs.Ports.{modeGroup, plusWritten, plusRead, portWrites, portReads}
 use Rattle.registers.specs.Registers.{registerWrites, registerReads, writeRegister, writePort, readRegister, readPort}
 use Rattle.register_laws.specs.Bounds.{Typed}
@@ -71,7 +71,7 @@ module _ (s : State) (v : ℕ) (b : v < 256) (z : Typed s) (h : lawfulState s �
       ∙ f (sym (ap (λ (a : Answer). a .reply) w) ∙ d)
 
   -- a judged row, whose changed state t reads as k
-  judged-back : (n k : ℕ) (ok : Bool) (t : State) → writeBy registerWrites s n v ≡ within ok t s → readBy registerReads t n ≡ given k
+  judged-back : (n k : ℕ) (ok : Bool) (t : State) → writeBy registerWrites s n v ≡ ifFits ok t s → readBy registerReads t n ≡ given k
       → writeRegister s n v .reply ≡ Done → readRegister (writeRegister s n v .state) n ≡ given k
   judged-back n k ok t e g =
       back n k
@@ -125,7 +125,7 @@ turnsReads s h =
 pub colourReads : ColourReads
 unfolding ColourReads
 colourReads s h =
-    let l : colourAt s ≤ 511 = colour-at (paletteAt (written s) s) (s .palette .index) (palette-at (written s) s (apart s h .1)) in
+    let l : colourAt s ≤ 511 = colour-at (paletteAt (paletteChoice s) s) (s .palette .index) (palette-at (paletteChoice s) s (apart s h .1)) in
     let e : colourAt s / 2 % 256 ≡ colourAt s / 2 = omega arith in
     (read-row s 0x41 h ∙ ap given e, read-row s 0x44 h)
 
@@ -186,7 +186,7 @@ nineTwice s first bit b l z h e =
     ap (λ (a : Answer). writeRegister (a .state) 0x44 bit) o
     ∙ write-row s1 0x44 bit h1
     ∙ if-true (leb bit 1) _ _ (le-leb bit 1 l)
-    ∙ ap done (stored-over s _ p (written s) (s .palette .index) (first * 2 + bit))
+    ∙ ap done (stored-over s _ p (paletteChoice s) (s .palette .index) (first * 2 + bit))
 
 -- no half is held after it
 abbrev Gone : Answer → Type 0

@@ -15,10 +15,10 @@ use Rattle.state.specs.Lawful.{lawfulTiles, lawfulPalette, lawfulTurns, lawfulP
 use Rattle.state.specs.Answer.{done}
 use Rattle.state.specs.With.{withUla, withTiles, withPalette, withTurns, withPorts, withUlaClip, withTileClip, withPlus}
 use Rattle.colour.specs.Bytes.{widened}
-use Rattle.register_stored.specs.Fields.{ulaWithTransparent, ulaWithLayers, ulaWithPeripheral, ulaWithFallback, ulaWithControl, ulaWithX, ulaWithY, tilesWithTransparent, tilesWithControl, tilesWithAttribute, tilesWithXHigh, tilesWithXLow, tilesWithY, tilesWithMap, tilesWithDefinitions}
-use Rattle.register_stored.specs.Plain.{peripheralWritten, transparentWritten, layersWritten, tileXHighWritten, tileXLowWritten, tileYWritten, ulaXWritten, ulaYWritten, fallbackWritten, tileTransparentWritten, ulaControlWritten, tileControlWritten, tileAttributeWritten, mapWritten, definitionsWritten}
-use Rattle.register_clips.specs.Clips.{place, nextTurn, ulaClipWritten, tileClipWritten, restarted, turnsWritten}
-use Rattle.register_palettes.specs.Palettes.{paletteAt, written, colourStored, colourPut, indexWritten, eightWritten, maskWritten, controlWritten, nineFirst, nineSecond, nineWritten}
+use Rattle.state.specs.Groups.{ulaWithTransparent, ulaWithLayers, ulaWithPeripheral, ulaWithFallback, ulaWithControl, ulaWithX, ulaWithY, tilesWithTransparent, tilesWithControl, tilesWithAttribute, tilesWithXHigh, tilesWithXLow, tilesWithY, tilesWithMap, tilesWithDefinitions}
+use Rattle.register_stored.specs.Stored.{peripheralWritten, transparentWritten, layersWritten, tileXHighWritten, tileXLowWritten, tileYWritten, ulaXWritten, ulaYWritten, fallbackWritten, tileTransparentWritten, ulaControlWritten, tileControlWritten, tileAttributeWritten, mapWritten, definitionsWritten}
+use Rattle.register_clips.specs.Clips.{coordinate, nextTurn, ulaClipWritten, tileClipWritten, restarted, turnsWritten}
+use Rattle.register_palettes.specs.Palettes.{paletteAt, paletteChoice, colourStored, colourPut, indexWritten, eightWritten, maskWritten, controlWritten, nineFirst, nineSecond, nineWritten}
 use Rattle.register_ports.specs.Ports.{borderWritten, timexWritten, selectWritten, modeGroup, modeWritten, plusWritten, portWrites}
 use Rattle.registers.specs.Registers.{registerWrites}
 use Rattle.register_laws.specs.Claims.{Each, none, _▷_}
@@ -133,17 +133,17 @@ restart-below bit turn h = either (λ k. leb k 3 ≡ true) (eqb bit 1) 0 turn re
 pub ula-clip : Sound ulaClipWritten
 ula-clip =
     always
-    (λ s v. withTurns (withUlaClip s (set (s .ulaclip) (place (s .turns .ula)) v)) (record { ula = nextTurn (s .turns .ula); tiles = s .turns .tiles }))
+    (λ s v. withTurns (withUlaClip s (set (s .ulaclip) (coordinate (s .turns .ula)) v)) (record { ula = nextTurn (s .turns .ula); tiles = s .turns .tiles }))
     (λ s v b p.
-    with-turns (withUlaClip s (set (s .ulaclip) (place (s .turns .ula)) v)) _ (with-ulaclip s _ p (length-set (s .ulaclip) (place (s .turns .ula)) v ∙ p .2 .ulafour))
+    with-turns (withUlaClip s (set (s .ulaclip) (coordinate (s .turns .ula)) v)) _ (with-ulaclip s _ p (length-set (s .ulaclip) (coordinate (s .turns .ula)) v ∙ p .2 .ulafour))
     (both _ _ (turn-below (s .turns .ula)) (tile-turn s (p .0 .turns))))
 
 pub tile-clip : Sound tileClipWritten
 tile-clip =
     always
-    (λ s v. withTurns (withTileClip s (set (s .tileclip) (place (s .turns .tiles)) v)) (record { ula = s .turns .ula; tiles = nextTurn (s .turns .tiles) }))
+    (λ s v. withTurns (withTileClip s (set (s .tileclip) (coordinate (s .turns .tiles)) v)) (record { ula = s .turns .ula; tiles = nextTurn (s .turns .tiles) }))
     (λ s v b p.
-    with-turns (withTileClip s (set (s .tileclip) (place (s .turns .tiles)) v)) _ (with-tileclip s _ p (length-set (s .tileclip) (place (s .turns .tiles)) v ∙ p .2 .tilefour))
+    with-turns (withTileClip s (set (s .tileclip) (coordinate (s .turns .tiles)) v)) _ (with-tileclip s _ p (length-set (s .tileclip) (coordinate (s .turns .tiles)) v ∙ p .2 .tilefour))
     (both _ _ (ula-turn s (p .0 .turns)) (turn-below (s .turns .tiles))))
 
 pub turns : Sound turnsWritten
@@ -191,7 +191,7 @@ control =
 put-kept : (s : State) (c : ℕ) → c ≤ 511 → Parts s → Parts (colourPut s c)
 put-kept s c l p =
     let q = p .0 .palette in
-    let n = written s in
+    let n = paletteChoice s in
     with-palette (colourStored s n (s .palette .index) c) _ (with-palette-at n s _ p (set-colours (paletteAt n s) (s .palette .index) c (palette-at n s (p .1)) l))
     (all-three _ _ _ (mask-of (s .palette) q) (choice-of (s .palette) q) refl) (lit< tt)
 

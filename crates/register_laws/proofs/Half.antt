@@ -12,7 +12,7 @@ use Rattle.state.specs.Answer.{done, refused}
 use Rattle.state.specs.Bounds.{isMask}
 use Rattle.state.specs.Lawful.{lawfulState}
 use Rattle.state.specs.With.{withPalette}
-use Rattle.register_answers.specs.Answers.{within, writeLawful}
+use Rattle.register_answers.specs.Answers.{ifFits, writeLawful}
 use Rattle.register_answers.specs.Rows.{writeBy}
 use Rattle.register_palettes.specs.Palettes.{colourStored}
 use Rattle.register_ports.specs.Ports.{modeGroup, portWrites}
@@ -39,7 +39,7 @@ module _ (s : State) where
   same : SameHalf s s
   same = (refl, refl)
 
-  judged-same : (ok : Bool) (t : State) → SameHalf s t → Same s (within ok t s)
+  judged-same : (ok : Bool) (t : State) → SameHalf s t → Same s (ifFits ok t s)
   judged-same ok t h = either (Same s) ok (done t) (refused OutOfBounds s) h same
 
   pub lawful-same : (a : Answer) → Same s a → Same s (writeLawful s a)

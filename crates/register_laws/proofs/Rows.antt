@@ -9,7 +9,7 @@ use Rattle.reply.specs.declared.Reply.the-variants.{Done, NoRegister}
 use Rattle.state.specs.declared.State.{State}
 use Rattle.state.specs.declared.Answer.{Answer}
 use Rattle.state.specs.Answer.{done, refused}
-use Rattle.register_answers.specs.Answers.{within}
+use Rattle.register_answers.specs.Answers.{ifFits}
 use Rattle.register_answers.specs.Rows.{WriteRow, writeBy}
 use Rattle.register_laws.specs.Claims.{Each, none, _▷_}
 use Rattle.register_laws.proofs.Parts.{Parts, either}
@@ -23,16 +23,16 @@ pub record Sound (f : State → ℕ → Answer) : Type 0 where
 pub always : (t : State → ℕ → State) → ((s : State) (v : ℕ) → v < 256 → Parts s → Parts (t s v)) → Sound (λ s v. done (t s v))
 always t k = record { kept = k; clean = λ s v h. absurd (h refl) }
 
--- a write that changes the state where its value is within its bounds
+-- a write that changes the state where its value fits
 pub judged : (ok : ℕ → Bool) (t : State → ℕ → State) → ((s : State) (v : ℕ) → v < 256 → ok v ≡ true → Parts s → Parts (t s v))
-    → Sound (λ s v. within (ok v) (t s v) s)
+    → Sound (λ s v. ifFits (ok v) (t s v) s)
 judged ok t k = record { kept = λ s v b p. keep (ok v) (t s v) s (λ e. k s v b e p) p; clean = λ s v h. same (ok v) (t s v) s h }
   where
-    keep : (b : Bool) (x y : State) → (b ≡ true → Parts x) → Parts y → Parts (within b x y .state)
+    keep : (b : Bool) (x y : State) → (b ≡ true → Parts x) → Parts y → Parts (ifFits b x y .state)
     keep true x y f p = f refl
     keep false x y f p = p
 
-    same : (b : Bool) (x y : State) → (within b x y .reply ≡ Done → ⊥) → within b x y .state ≡ y
+    same : (b : Bool) (x y : State) → (ifFits b x y .reply ≡ Done → ⊥) → ifFits b x y .state ≡ y
     same true x y h = absurd (h refl)
     same false x y h = refl
 

@@ -8,7 +8,7 @@ use lib.ListN.{length, set}
 use lib.Dec.{eqb}
 use borrow.Author.Tests.{eq-eqb, ne-eqb}
 use Rattle.lists.proofs.Cond.{if-true, if-false}
-use Rattle.register_clips.specs.Clips.{place, nextTurn, restarted}
+use Rattle.register_clips.specs.Clips.{coordinate, nextTurn, restarted}
 use Rattle.register_laws.specs.Claims.{At}
 
 abbrev pub fourSet : List ℕ → ℕ → ℕ → ℕ → ℕ → ℕ → List ℕ
@@ -16,9 +16,9 @@ fourSet l t a b c d =
     let t1 = nextTurn t in
     let t2 = nextTurn t1 in
     let t3 = nextTurn t2 in
-    set (set (set (set l (place t) a) (place t1) b) (place t2) c) (place t3) d
+    set (set (set (set l (coordinate t) a) (coordinate t1) b) (coordinate t2) c) (coordinate t3) d
 
--- four stores in turn, from any place on
+-- four stores in turn, from any coordinate on
 pub four : (l : List ℕ) (t a b c d : ℕ) → length l ≡ 4 → t ≤ 3
     → (nextTurn (nextTurn (nextTurn (nextTurn t))) ≡ t)
     × At (fourSet l t a b c d) t a

@@ -10,9 +10,10 @@ use Rattle.state.specs.declared.Answer.{Answer}
 use Rattle.state.specs.Answer.{done}
 use Rattle.state.specs.Bits.{timexOn}
 use Rattle.state.specs.Lawful.{lawfulState}
+use Rattle.state.specs.Groups.{paletteWithIndex, paletteWithoutHalf}
 use Rattle.state.specs.With.{withPalette}
 use Rattle.register_answers.specs.Answers.{given, unread}
-use Rattle.register_palettes.specs.Palettes.{paletteAt, withPaletteAt, written, nextIndex}
+use Rattle.register_palettes.specs.Palettes.{paletteAt, withPaletteAt, paletteChoice, nextIndex}
 use Rattle.registers.specs.Registers.{writeRegister, writePort, readRegister, readPort}
 use Rattle.register_laws.specs.Bounds.{Typed}
 
@@ -101,8 +102,8 @@ NineTwice =
     (s : State) (first bit : ℕ) → first < 256 → bit ≤ 1 → Typed s → lawfulState s ≡ true → s .palette .held ≡ false
     → writeRegister (writeRegister s 0x44 first .state) 0x44 bit
     ≡ done
-    (withPalette (withPaletteAt (written s) s (set (paletteAt (written s) s) (s .palette .index) (first * 2 + bit)))
-    (record { control = s .palette .control; index = nextIndex (s .palette .control) (s .palette .index); mask = s .palette .mask; held = false; half = 0 }))
+    (withPalette (withPaletteAt (paletteChoice s) s (set (paletteAt (paletteChoice s) s) (s .palette .index) (first * 2 + bit)))
+    (paletteWithoutHalf (paletteWithIndex (s .palette) (nextIndex (s .palette .control) (s .palette .index)))))
 
 -- $44 once changes no palette
 unfoldable pub NineOnce : Type 0
@@ -129,7 +130,7 @@ HalfKept =
 
 -- ---- clips and turns
 
--- x lies at place i of a clip, from 0, counted on past the last from the first again
+-- x lies at coordinate i of a clip, from 0, counted on past the last from the first again
 abbrev pub At : List ℕ → ℕ → ℕ → Type 0
 At clip i x = getD clip (i % 4) 0 ≡ x
 
@@ -174,8 +175,8 @@ TurnsReads = (s : State) → lawfulState s ≡ true → readRegister s 0x1C ≡ 
 unfoldable pub ColourReads : Type 0
 ColourReads =
     (s : State) → lawfulState s ≡ true
-    → (readRegister s 0x41 ≡ given (getD (paletteAt (written s) s) (s .palette .index) 0 / 2))
-    × (readRegister s 0x44 ≡ given (getD (paletteAt (written s) s) (s .palette .index) 0 % 2))
+    → (readRegister s 0x41 ≡ given (getD (paletteAt (paletteChoice s) s) (s .palette .index) 0 / 2))
+    × (readRegister s 0x44 ≡ given (getD (paletteAt (paletteChoice s) s) (s .palette .index) 0 % 2))
 
 -- $FF3B in the mode group reads 1 or 0, as ULAplus is on or not
 unfoldable pub ModeReads : Type 0

@@ -4,7 +4,7 @@ ghost use Rattle.register_palettes.specs.Palettes.{indexWritten, colourS
 use colour::widen;
 use lists::u16_of;
 use register_answers::accept;
-use register_answers::bounded;
+use register_answers::if_fits;
 use state::Answer;
 use state::State;
 
@@ -82,7 +82,7 @@ fn nine_second(s: State, value: u8) -> Answer
     let bit = u16_of(value);
     let ok = value <= 1;
     let t = put_colour(s, half * 2 + bit);
-    bounded(ok, t, s)
+    if_fits(ok, t, s)
 }
 
 // $44

@@ -1,7 +1,7 @@
 // The ink mask and the control register.
 ghost use mathlib.Core.Path.{_≡_};
 ghost use Rattle.register_palettes.specs.Palettes.{maskWritten, controlWritten};
-use register_answers::bounded;
+use register_answers::if_fits;
 use state::Answer;
 use state::State;
 use state::is_choice;
@@ -14,7 +14,7 @@ pub fn write_mask(s: State, value: u8) -> Answer
     let ok = is_mask(value);
     let mut t = s;
     t.palette.mask = value;
-    bounded(ok, t, s)
+    if_fits(ok, t, s)
 }
 
 // $43
@@ -26,5 +26,5 @@ pub fn write_control(s: State, value: u8) -> Answer
     t.palette.control = value;
     t.palette.held = false;
     t.palette.half = 0;
-    bounded(ok, t, s)
+    if_fits(ok, t, s)
 }

@@ -3,29 +3,30 @@ use Prim.Native.Nat.{ℕ, _%_}
 use mathlib.Core.List.{List, [], _∷_}
 use mathlib.Core.Bool.{Bool, cond}
 use lib.ListN.{getD, set}
-use lib.Dec.{leb, ltb, eqb}
+use lib.Dec.{leb, eqb}
 use Rattle.reply.specs.declared.Reply.the-variants.{NoRegister}
 use Rattle.state.specs.declared.State.{State}
-use Rattle.state.specs.declared.Ports.{Ports}
 use Rattle.state.specs.declared.Answer.{Answer}
 use Rattle.state.specs.Answer.{done}
 use Rattle.state.specs.Bits.{timexOn}
+use Rattle.state.specs.Bounds.{selectFits}
+use Rattle.state.specs.Groups.{portsWithBorder, portsWithTimex, portsWithSelect, portsWithPlus}
 use Rattle.state.specs.With.{withPorts, withPlus}
 use Rattle.register_answers.specs.declared.Reading.{Reading}
-use Rattle.register_answers.specs.Answers.{within, given, unread}
+use Rattle.register_answers.specs.Answers.{ifFits, given, unread}
 use Rattle.register_answers.specs.Rows.{WriteRow, writes, writeBy, ReadRow, reads, readBy}
 
 -- $FE: the low three bits are the border
 abbrev pub borderWritten : State → ℕ → Answer
-borderWritten s v = let p = s .ports in done (withPorts s (record { border = v % 8; timex = p .timex; select = p .select; plus = p .plus }))
+borderWritten s v = done (withPorts s (portsWithBorder (s .ports) (v % 8)))
 
 -- $FF
 abbrev pub timexWritten : State → ℕ → Answer
-timexWritten s v = let p = s .ports in done (withPorts s (record { border = p .border; timex = v; select = p .select; plus = p .plus }))
+timexWritten s v = done (withPorts s (portsWithTimex (s .ports) v))
 
 -- $BF3B: below 128
 abbrev pub selectWritten : State → ℕ → Answer
-selectWritten s v = let p = s .ports in within (ltb v 128) (withPorts s (record { border = p .border; timex = p .timex; select = v; plus = p .plus })) s
+selectWritten s v = ifFits (selectFits v) (withPorts s (portsWithSelect (s .ports) v)) s
 
 -- $BF3B: 64 and up is the mode group
 abbrev pub modeGroup : State → Bool
@@ -33,7 +34,7 @@ modeGroup s = leb 64 (s .ports .select)
 
 -- $FF3B in the mode group: bit 0 as ULAplus on
 abbrev pub modeWritten : State → ℕ → Answer
-modeWritten s v = let p = s .ports in done (withPorts s (record { border = p .border; timex = p .timex; select = p .select; plus = eqb (v % 2) 1 }))
+modeWritten s v = done (withPorts s (portsWithPlus (s .ports) (eqb (v % 2) 1)))
 
 -- $FF3B: a ULAplus register, or the mode
 abbrev pub plusWritten : State → ℕ → Answer

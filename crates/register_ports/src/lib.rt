@@ -4,12 +4,13 @@ ghost use Rattle.register_answers.specs.Rows.{writeBy, readBy};
 ghost use Rattle.register_ports.specs.Ports.{borderWritten, timexWritten, selectWritten, modeWritten, plusWritten, timexRead, plusRead, portWrites, portReads};
 use register_answers::Reading;
 use register_answers::accept;
-use register_answers::bounded;
 use register_answers::give;
+use register_answers::if_fits;
 use register_answers::no_read;
 use register_answers::no_write;
 use state::Answer;
 use state::State;
+use state::select_fits;
 use state::timex_on;
 
 // $FE
@@ -35,10 +36,10 @@ fn write_timex(s: State, value: u8) -> Answer
 fn write_select(s: State, value: u8) -> Answer
     ensures { λ r. ⌜ r ≡ selectWritten s value ⌝ }
 {
-    let ok = value < 128;
+    let ok = select_fits(value);
     let mut t = s;
     t.ports.select = value;
-    bounded(ok, t, s)
+    if_fits(ok, t, s)
 }
 
 // $FF3B in the mode group.

@@ -1,19 +1,22 @@
 // Writes to the tilemap's registers.
 ghost use mathlib.Core.Path.{_≡_};
-ghost use Rattle.register_stored.specs.Plain.{tileXHighWritten, tileXLowWritten, tileYWritten, tileTransparentWritten, tileControlWritten, tileAttributeWritten, mapWritten, definitionsWritten};
+ghost use Rattle.register_stored.specs.Stored.{tileXHighWritten, tileXLowWritten, tileYWritten, tileTransparentWritten, tileControlWritten, tileAttributeWritten, mapWritten, definitionsWritten};
 use register_answers::accept;
-use register_answers::bounded;
+use register_answers::if_fits;
 use state::Answer;
 use state::State;
+use state::tile_control_fits;
+use state::tile_transparent_fits;
+use state::x_high_fits;
 
 // $2F
 pub fn write_tile_x_high(s: State, value: u8) -> Answer
     ensures { λ r. ⌜ r ≡ tileXHighWritten s value ⌝ }
 {
-    let ok = value <= 3;
+    let ok = x_high_fits(value);
     let mut t = s;
     t.tiles.xhigh = value;
-    bounded(ok, t, s)
+    if_fits(ok, t, s)
 }
 
 // $30
@@ -38,20 +41,20 @@ pub fn write_tile_y(s: State, value: u8) -> Answer
 pub fn write_tile_transparent(s: State, value: u8) -> Answer
     ensures { λ r. ⌜ r ≡ tileTransparentWritten s value ⌝ }
 {
-    let ok = value <= 15;
+    let ok = tile_transparent_fits(value);
     let mut t = s;
     t.tiles.transparent = value;
-    bounded(ok, t, s)
+    if_fits(ok, t, s)
 }
 
 // $6B
 pub fn write_tile_control(s: State, value: u8) -> Answer
     ensures { λ r. ⌜ r ≡ tileControlWritten s value ⌝ }
 {
-    let ok = value % 16 == 0;
+    let ok = tile_control_fits(value);
     let mut t = s;
     t.tiles.control = value;
-    bounded(ok, t, s)
+    if_fits(ok, t, s)
 }
 
 // $6C

@@ -1,10 +1,12 @@
 // Writes to the ULA's registers.
 ghost use mathlib.Core.Path.{_≡_};
-ghost use Rattle.register_stored.specs.Plain.{peripheralWritten, transparentWritten, layersWritten, ulaXWritten, ulaYWritten, fallbackWritten, ulaControlWritten};
+ghost use Rattle.register_stored.specs.Stored.{peripheralWritten, transparentWritten, layersWritten, ulaXWritten, ulaYWritten, fallbackWritten, ulaControlWritten};
 use register_answers::accept;
-use register_answers::bounded;
+use register_answers::if_fits;
 use state::Answer;
 use state::State;
+use state::ula_control_fits;
+use state::ula_y_fits;
 
 // $08
 pub fn write_peripheral(s: State, value: u8) -> Answer
@@ -46,10 +48,10 @@ pub fn write_ula_x(s: State, value: u8) -> Answer
 pub fn write_ula_y(s: State, value: u8) -> Answer
     ensures { λ r. ⌜ r ≡ ulaYWritten s value ⌝ }
 {
-    let ok = value <= 191;
+    let ok = ula_y_fits(value);
     let mut t = s;
     t.ula.y = value;
-    bounded(ok, t, s)
+    if_fits(ok, t, s)
 }
 
 // $4A
@@ -65,8 +67,8 @@ pub fn write_fallback(s: State, value: u8) -> Answer
 pub fn write_ula_control(s: State, value: u8) -> Answer
     ensures { λ r. ⌜ r ≡ ulaControlWritten s value ⌝ }
 {
-    let ok = value / 2 % 32 == 0;
+    let ok = ula_control_fits(value);
     let mut t = s;
     t.ula.control = value;
-    bounded(ok, t, s)
+    if_fits(ok, t, s)
 }

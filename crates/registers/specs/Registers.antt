@@ -7,7 +7,7 @@ use Rattle.state.specs.declared.Answer.{Answer}
 use Rattle.register_answers.specs.declared.Reading.{Reading}
 use Rattle.register_answers.specs.Answers.{given, writeLawful, readLawful}
 use Rattle.register_answers.specs.Rows.{WriteRow, writes, writeBy, ReadRow, reads, readBy}
-use Rattle.register_stored.specs.Plain.{peripheralWritten, transparentWritten, layersWritten, tileXHighWritten, tileXLowWritten, tileYWritten, ulaXWritten, ulaYWritten, fallbackWritten, tileTransparentWritten, ulaControlWritten, tileControlWritten, tileAttributeWritten, mapWritten, definitionsWritten}
+use Rattle.register_stored.specs.Stored.{peripheralWritten, transparentWritten, layersWritten, tileXHighWritten, tileXLowWritten, tileYWritten, ulaXWritten, ulaYWritten, fallbackWritten, tileTransparentWritten, ulaControlWritten, tileControlWritten, tileAttributeWritten, mapWritten, definitionsWritten}
 use Rattle.register_clips.specs.Clips.{ulaClipWritten, tileClipWritten, turnsWritten, clipNext, turnsRead}
 use Rattle.register_palettes.specs.Palettes.{indexWritten, eightWritten, maskWritten, controlWritten, nineWritten, eightRead, nineRead}
 use Rattle.register_ports.specs.Ports.{portWrites, portReads}

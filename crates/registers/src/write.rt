@@ -8,8 +8,8 @@ use state::Answer;
 use state::State;
 use state::lawful;
 
-// What a write does to the register of a number.
-fn write_numbered(s: State, number: u8, value: u8) -> Answer
+// The write by number without the judgement of lawful, for calls that have judged the state.
+pub fn write_numbered(s: State, number: u8, value: u8) -> Answer
     ensures { λ r. ⌜ r ≡ writeBy registerWrites s number value ⌝ }
 {
     match number {

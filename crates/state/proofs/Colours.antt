@@ -1,26 +1,19 @@
 -- All colours of a palette are tested one after the other.
-use mathlib.Core.Path.{_≡_, refl, sym, ap, _∙_}
+use mathlib.Core.Path.{_≡_, sym, ap, _∙_}
 use mathlib.Core.List.{List}
-use mathlib.Core.Bool.{Bool, true, false, _&&_}
+use mathlib.Core.Bool.{Bool, true, _&&_}
 use Prim.Native.Nat.{ℕ, _+_, _≤_, _<_}
 use native.Mathlib.Numerals.{add-one}
 use lib.ListN.{length, drop, getD, drop-of-length-le}
 use lib.Seq.{drop-cons}
-use lib.Dec.{leb}
+use Rattle.lists.proofs.Cond.{and-assoc, and-true}
+use Rattle.state.specs.Bounds.{colourFits}
 use Rattle.state.specs.Lawful.{allColours}
 
-and-assoc : (a b c : Bool) → (a && (b && c)) ≡ ((a && b) && c)
-and-assoc true b c = refl
-and-assoc false b c = refl
-
-and-true : (a : Bool) → (a && true) ≡ a
-and-true true = refl
-and-true false = refl
-
 pub colours-more : (a : List ℕ) (i : ℕ) (ok : Bool) → i < length a → allColours a ≡ (ok && allColours (drop i a))
-    → allColours a ≡ ((ok && leb (getD a i 0) 511) && allColours (drop (i + 1) a))
+    → allColours a ≡ ((ok && colourFits (getD a i 0)) && allColours (drop (i + 1) a))
 colours-more a i ok h e =
-    let d : allColours (drop i a) ≡ (leb (getD a i 0) 511 && allColours (drop (i + 1) a)) = rw (add-one, drop-cons a i 0) in
+    let d : allColours (drop i a) ≡ (colourFits (getD a i 0) && allColours (drop (i + 1) a)) = rw (add-one, drop-cons a i 0) in
     e ∙ ap (λ (b : Bool). ok && b) d ∙ and-assoc ok _ _
 
 pub colours-end : (a : List ℕ) (i : ℕ) (ok : Bool) → length a ≤ i → allColours a ≡ (ok && allColours (drop i a)) → ok ≡ allColours a

@@ -1,7 +1,7 @@
-// What is lawful. A group's test is one chain of `&` in the order of its definition, so that it is equal to it by computation.
+// What is lawful. A bound that more than one test needs is a function; a group's test is one chain of `&` in the order of its definition.
 ghost use mathlib.Core.Path.{_≡_};
 ghost use mathlib.Core.Bool.{_&&_};
-ghost use Rattle.state.specs.Bounds.{isMask, isChoice};
+ghost use Rattle.state.specs.Bounds.{ulaYFits, ulaControlFits, isMask, isChoice, tileTransparentFits, tileControlFits, xHighFits, baseFits, turnFits, selectFits};
 ghost use Rattle.state.specs.Lawful.{lawfulUla, lawfulPalette, lawfulTiles, lawfulTurns, lawfulPorts, allColours, lawfulState};
 use crate::Palette;
 use crate::Ports;
@@ -9,6 +9,13 @@ use crate::State;
 use crate::Tiles;
 use crate::Turns;
 use crate::Ula;
+
+// $33
+pub fn ula_y_fits(v: u8) -> bool
+    ensures { λ r. ⌜ r ≡ ulaYFits v ⌝ }
+{
+    v <= 191
+}
 
 // One of the eight ink masks.
 pub fn is_mask(x: u8) -> bool
@@ -25,10 +32,59 @@ pub fn is_choice(control: u8) -> bool
     (choice == 0) | (choice == 4) | (choice == 3) | (choice == 7)
 }
 
+// $4C
+pub fn tile_transparent_fits(v: u8) -> bool
+    ensures { λ r. ⌜ r ≡ tileTransparentFits v ⌝ }
+{
+    v <= 15
+}
+
+// $68
+pub fn ula_control_fits(v: u8) -> bool
+    ensures { λ r. ⌜ r ≡ ulaControlFits v ⌝ }
+{
+    v / 2 % 32 == 0
+}
+
+// $6B
+pub fn tile_control_fits(v: u8) -> bool
+    ensures { λ r. ⌜ r ≡ tileControlFits v ⌝ }
+{
+    v % 16 == 0
+}
+
+// $2F
+pub fn x_high_fits(v: u8) -> bool
+    ensures { λ r. ⌜ r ≡ xHighFits v ⌝ }
+{
+    v <= 3
+}
+
+// $6E and $6F
+fn base_fits(v: u8) -> bool
+    ensures { λ r. ⌜ r ≡ baseFits v ⌝ }
+{
+    v < 64
+}
+
+// A clip's turn.
+fn turn_fits(v: u8) -> bool
+    ensures { λ r. ⌜ r ≡ turnFits v ⌝ }
+{
+    v <= 3
+}
+
+// $BF3B
+pub fn select_fits(v: u8) -> bool
+    ensures { λ r. ⌜ r ≡ selectFits v ⌝ }
+{
+    v < 128
+}
+
 fn lawful_ula(u: Ula) -> bool
     ensures { λ r. ⌜ r ≡ lawfulUla u ⌝ }
 {
-    (u.y <= 191) & (u.control / 2 % 32 == 0)
+    ula_y_fits(u.y) & ula_control_fits(u.control)
 }
 
 fn lawful_palette(p: Palette) -> bool
@@ -42,23 +98,23 @@ fn lawful_palette(p: Palette) -> bool
 fn lawful_tiles(t: Tiles) -> bool
     ensures { λ r. ⌜ r ≡ lawfulTiles t ⌝ }
 {
-    (t.transparent <= 15)
-        & (t.control % 16 == 0)
-        & (t.xhigh <= 3)
-        & (t.map < 64)
-        & (t.definitions < 64)
+    tile_transparent_fits(t.transparent)
+        & tile_control_fits(t.control)
+        & x_high_fits(t.xhigh)
+        & base_fits(t.map)
+        & base_fits(t.definitions)
 }
 
 fn lawful_turns(t: Turns) -> bool
     ensures { λ r. ⌜ r ≡ lawfulTurns t ⌝ }
 {
-    (t.ula <= 3) & (t.tiles <= 3)
+    turn_fits(t.ula) & turn_fits(t.tiles)
 }
 
 fn lawful_ports(p: Ports) -> bool
     ensures { λ r. ⌜ r ≡ lawfulPorts p ⌝ }
 {
-    (p.border <= 7) & (p.select < 128)
+    (p.border <= 7) & select_fits(p.select)
 }
 
 // Every entry is looked at, with no early exit, so that the loop can be vectorised.

@@ -18,11 +18,11 @@ add-put-colour c = search needs
 put-colour-requires : tie.Need-put-colour-requires
 put-colour-requires c κs = search needs
 
-bounded-requires : tie.Need-bounded-requires
-bounded-requires c κs = search needs
+if-fits-requires : tie.Need-if-fits-requires
+if-fits-requires c κs = search needs
 
 returns : tie.Need-returns
-returns c = rw (c .before .put-colour .ensures, c .before .before .u16-of2 .ensures .0, c .before .before .before .u16-of .ensures .0) at (c .bounded .ensures)
+returns c = rw (c .before .put-colour .ensures, c .before .before .u16-of2 .ensures .0, c .before .before .before .u16-of .ensures .0) at (c .if-fits .ensures)
 
 pub nine-second-spec : {M : Type 1} → statement M
 nine-second-spec =
@@ -33,5 +33,5 @@ nine-second-spec =
     mul-put-colour
     add-put-colour
     put-colour-requires
-    bounded-requires
+    if-fits-requires
     returns)

@@ -6,11 +6,11 @@ use Rattle.register_palettes.proofs.control.write_control.Tie as tie
 is-choice-requires : tie.Need-is-choice-requires
 is-choice-requires c κs = search needs
 
-bounded-requires : tie.Need-bounded-requires
-bounded-requires c κs = search needs
+if-fits-requires : tie.Need-if-fits-requires
+if-fits-requires c κs = search needs
 
 returns : tie.Need-returns
-returns c = rw (c .before .before .before .before .is-choice .ensures) at (c .bounded .ensures)
+returns c = rw (c .before .before .before .before .is-choice .ensures) at (c .if-fits .ensures)
 
 pub write-control-spec : {M : Type 1} → statement M
-write-control-spec = tie.close (tie.spec is-choice-requires bounded-requires returns)
+write-control-spec = tie.close (tie.spec is-choice-requires if-fits-requires returns)

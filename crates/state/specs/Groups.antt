@@ -1,7 +1,11 @@
--- A group of registers with one of them replaced.
+-- A group of registers with one of them replaced: every effect on a group is made of these.
 use Prim.Native.Nat.{ℕ}
+use mathlib.Core.Bool.{Bool, true, false}
 use Rattle.state.specs.declared.Ula.{Ula}
 use Rattle.state.specs.declared.Tiles.{Tiles}
+use Rattle.state.specs.declared.Palette.{Palette}
+use Rattle.state.specs.declared.Turns.{Turns}
+use Rattle.state.specs.declared.Ports.{Ports}
 
 -- $14
 abbrev pub ulaWithTransparent : Ula → ℕ → Ula
@@ -62,3 +66,47 @@ tilesWithMap t v = record { transparent = t .transparent; control = t .control; 
 -- $6F
 abbrev pub tilesWithDefinitions : Tiles → ℕ → Tiles
 tilesWithDefinitions t v = record { transparent = t .transparent; control = t .control; attribute = t .attribute; xhigh = t .xhigh; xlow = t .xlow; y = t .y; map = t .map; definitions = v }
+
+-- $43
+abbrev pub paletteWithControl : Palette → ℕ → Palette
+paletteWithControl p v = record { control = v; index = p .index; mask = p .mask; held = p .held; half = p .half }
+
+-- $40
+abbrev pub paletteWithIndex : Palette → ℕ → Palette
+paletteWithIndex p v = record { control = p .control; index = v; mask = p .mask; held = p .held; half = p .half }
+
+-- $42
+abbrev pub paletteWithMask : Palette → ℕ → Palette
+paletteWithMask p v = record { control = p .control; index = p .index; mask = v; held = p .held; half = p .half }
+
+-- the half of a nine-bit colour held
+abbrev pub paletteWithHalf : Palette → ℕ → Palette
+paletteWithHalf p v = record { control = p .control; index = p .index; mask = p .mask; held = true; half = v }
+
+-- no half held
+abbrev pub paletteWithoutHalf : Palette → Palette
+paletteWithoutHalf p = record { control = p .control; index = p .index; mask = p .mask; held = false; half = 0 }
+
+-- the ULA clip's turn
+abbrev pub turnsWithUla : Turns → ℕ → Turns
+turnsWithUla t v = record { ula = v; tiles = t .tiles }
+
+-- the tilemap clip's turn
+abbrev pub turnsWithTiles : Turns → ℕ → Turns
+turnsWithTiles t v = record { ula = t .ula; tiles = v }
+
+-- $FE
+abbrev pub portsWithBorder : Ports → ℕ → Ports
+portsWithBorder p v = record { border = v; timex = p .timex; select = p .select; plus = p .plus }
+
+-- $FF
+abbrev pub portsWithTimex : Ports → ℕ → Ports
+portsWithTimex p v = record { border = p .border; timex = v; select = p .select; plus = p .plus }
+
+-- $BF3B
+abbrev pub portsWithSelect : Ports → ℕ → Ports
+portsWithSelect p v = record { border = p .border; timex = p .timex; select = v; plus = p .plus }
+
+-- the ULAplus switch
+abbrev pub portsWithPlus : Ports → Bool → Ports
+portsWithPlus p v = record { border = p .border; timex = p .timex; select = p .select; plus = v }

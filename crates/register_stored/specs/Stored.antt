@@ -1,12 +1,12 @@
 -- The state and its registers: what a write does to each register that is stored, in the order of their numbers.
-use Prim.Native.Nat.{ℕ, _/_, _%_}
-use lib.Dec.{leb, eqb}
+use Prim.Native.Nat.{ℕ, _%_}
 use Rattle.state.specs.declared.State.{State}
 use Rattle.state.specs.declared.Answer.{Answer}
 use Rattle.state.specs.Answer.{done}
+use Rattle.state.specs.Bounds.{ulaYFits, tileTransparentFits, ulaControlFits, tileControlFits, xHighFits}
+use Rattle.state.specs.Groups.{ulaWithTransparent, ulaWithLayers, ulaWithPeripheral, ulaWithFallback, ulaWithControl, ulaWithX, ulaWithY, tilesWithTransparent, tilesWithControl, tilesWithAttribute, tilesWithXHigh, tilesWithXLow, tilesWithY, tilesWithMap, tilesWithDefinitions}
 use Rattle.state.specs.With.{withUla, withTiles}
-use Rattle.register_answers.specs.Answers.{within}
-use Rattle.register_stored.specs.Fields.{ulaWithTransparent, ulaWithLayers, ulaWithPeripheral, ulaWithFallback, ulaWithControl, ulaWithX, ulaWithY, tilesWithTransparent, tilesWithControl, tilesWithAttribute, tilesWithXHigh, tilesWithXLow, tilesWithY, tilesWithMap, tilesWithDefinitions}
+use Rattle.register_answers.specs.Answers.{ifFits}
 
 -- $08: bit 2 allows Timex modes
 abbrev pub peripheralWritten : State → ℕ → Answer
@@ -22,7 +22,7 @@ layersWritten s v = done (withUla s (ulaWithLayers (s .ula) v))
 
 -- $2F: tilemap X, at most 3
 abbrev pub tileXHighWritten : State → ℕ → Answer
-tileXHighWritten s v = within (leb v 3) (withTiles s (tilesWithXHigh (s .tiles) v)) s
+tileXHighWritten s v = ifFits (xHighFits v) (withTiles s (tilesWithXHigh (s .tiles) v)) s
 
 -- $30: tilemap X
 abbrev pub tileXLowWritten : State → ℕ → Answer
@@ -38,7 +38,7 @@ ulaXWritten s v = done (withUla s (ulaWithX (s .ula) v))
 
 -- $33: ULA and LoRes Y offset, at most 191
 abbrev pub ulaYWritten : State → ℕ → Answer
-ulaYWritten s v = within (leb v 191) (withUla s (ulaWithY (s .ula) v)) s
+ulaYWritten s v = ifFits (ulaYFits v) (withUla s (ulaWithY (s .ula) v)) s
 
 -- $4A: fallback
 abbrev pub fallbackWritten : State → ℕ → Answer
@@ -46,15 +46,15 @@ fallbackWritten s v = done (withUla s (ulaWithFallback (s .ula) v))
 
 -- $4C: tile transparency, at most 15
 abbrev pub tileTransparentWritten : State → ℕ → Answer
-tileTransparentWritten s v = within (leb v 15) (withTiles s (tilesWithTransparent (s .tiles) v)) s
+tileTransparentWritten s v = ifFits (tileTransparentFits v) (withTiles s (tilesWithTransparent (s .tiles) v)) s
 
 -- $68: bits 5-1 zero
 abbrev pub ulaControlWritten : State → ℕ → Answer
-ulaControlWritten s v = within (eqb (v / 2 % 32) 0) (withUla s (ulaWithControl (s .ula) v)) s
+ulaControlWritten s v = ifFits (ulaControlFits v) (withUla s (ulaWithControl (s .ula) v)) s
 
 -- $6B: bits 3-0 zero
 abbrev pub tileControlWritten : State → ℕ → Answer
-tileControlWritten s v = within (eqb (v % 16) 0) (withTiles s (tilesWithControl (s .tiles) v)) s
+tileControlWritten s v = ifFits (tileControlFits v) (withTiles s (tilesWithControl (s .tiles) v)) s
 
 -- $6C: the attribute of one-byte entries
 abbrev pub tileAttributeWritten : State → ℕ → Answer

@@ -1,0 +1,16 @@
+-- `lawful_ula` is the chain of its tests, in the order of the definition.
+use borrow.Author.Needs.{needs}
+use Rattle.state.proofs.bounds.lawful_ula.Statement.{statement}
+use Rattle.state.proofs.bounds.lawful_ula.Tie as tie
+
+ula-y-fits-requires : tie.Need-ula-y-fits-requires
+ula-y-fits-requires c κs = search needs
+
+ula-control-fits-requires : tie.Need-ula-control-fits-requires
+ula-control-fits-requires c κs = search needs
+
+returns : tie.Need-returns
+returns c = cc
+
+pub lawful-ula-spec : {M : Type 1} → statement M
+lawful-ula-spec = tie.close (tie.spec ula-y-fits-requires ula-control-fits-requires returns)
