@@ -3,7 +3,7 @@ use mathlib.Core.Path.{_≡_, refl}
 use mathlib.Core.Bool.{Bool, true, false}
 use Prim.Native.Nat.{ℕ}
 use native.Mathlib.Omega.{arith}
-use Rattle.lists.proofs.Cond.{if-true}
+use Rattle.lists.proofs.Cond.{if-true, either}
 use Rattle.reply.specs.declared.Reply.{Reply}
 use Rattle.reply.specs.declared.Reply.the-variants.{Done, NotLawful}
 use Rattle.state.specs.declared.State.{State}
@@ -14,7 +14,6 @@ use Rattle.register_answers.specs.Answers.{ifFits, unread, writeLawful}
 use Rattle.register_answers.specs.Rows.{writeBy, readBy}
 use Rattle.register_ports.specs.Ports.{portWrites, portReads}
 use Rattle.registers.specs.Registers.{registerWrites, registerReads, writeRegister, writePort, readRegister, readPort}
-use Rattle.register_laws.proofs.Parts.{either}
 
 pub write-row : (s : State) (n v : ℕ) → lawfulState s ≡ true → writeRegister s n v ≡ writeBy registerWrites s n v
 unfolding writeRegister

@@ -6,17 +6,18 @@ use Prim.Native.Nat.{ℕ, _+_, _*_, _/_, _%_, _≤_, _<_}
 use native.Mathlib.Omega.{arith}
 use lib.ListN.{length, getD}
 use lib.Seq.{getD-set-same}
-use lib.Dec.{leb, eqb}
+use lib.Dec.{leb}
 use borrow.Author.Tests.{le-leb, lt-leb, leb-true}
-use Rattle.lists.proofs.Cond.{if-true, if-false}
+use Rattle.lists.proofs.Cond.{if-true, if-false, either}
 use Rattle.reply.specs.declared.Reply.the-variants.{Done, NotLawful}
 use Rattle.state.specs.declared.State.{State}
-use Rattle.state.specs.declared.Palette.{Palette}
 use Rattle.state.specs.declared.Answer.{Answer}
 use Rattle.state.specs.Answer.{done, refused}
 use Rattle.state.specs.Bits.{timexOn}
-use Rattle.state.specs.Bounds.{isMask, isChoice}
+use Rattle.state.specs.Bounds.{ulaYFits, isMask, isChoice, tileTransparentFits, ulaControlFits, tileControlFits, xHighFits}
 use Rattle.state.specs.Lawful.{lawfulState}
+use Rattle.state.specs.Typed.{Typed}
+use Rattle.state.specs.Groups.{paletteWithHalf, turnsWithUla, turnsWithTiles}
 use Rattle.state.specs.With.{withPalette, withTurns}
 use Rattle.register_answers.specs.Answers.{ifFits, given, writeLawful}
 use Rattle.register_answers.specs.Rows.{WriteRow, writeBy, readBy}
@@ -24,9 +25,8 @@ use Rattle.register_clips.specs.Clips.{ulaClipWritten, tileClipWritten, restart
 use Rattle.register_palettes.specs.Palettes.{paletteAt, paletteChoice, colourAt, indexWritten, eightWritten, controlWritten}
 use Rattle.register_ports.specs.Ports.{modeGroup, plusWritten, plusRead, portWrites, portReads}
 use Rattle.registers.specs.Registers.{registerWrites, registerReads, writeRegister, writePort, readRegister, readPort}
-use Rattle.register_laws.specs.Bounds.{Typed}
 use Rattle.register_laws.specs.Claims.{Each, none, _▷_, LawfulStays, RefusedSame, ReadsBack, PortsReadBack, NineTwice, NineOnce, HalfDropped, HalfKept, fourWrites, FourClipWrites, TurnsRestarted, ClipReads, TurnsReads, ColourReads, ModeReads, WriteOnly}
-use Rattle.register_laws.proofs.Parts.{Parts, either, join, split, apart, colour-at, palette-at}
+use Rattle.register_laws.proofs.Parts.{Parts, join, split, apart, colour-at, palette-lawful}
 use Rattle.register_laws.proofs.Rows.{Sound, by-rows}
 use Rattle.register_laws.proofs.Effects.{registers-sound, ports-sound, ula-turn, tile-turn, ula-clip, tile-clip}
 use Rattle.register_laws.proofs.Calls.{write-row, port-row, read-row, read-port-row, accepted, if-done}
@@ -87,18 +87,18 @@ readsBack s v b z h =
     plain 0x08 v (λ d. refl)
     ▷ plain 0x14 v (λ d. refl)
     ▷ plain 0x15 v (λ d. refl)
-    ▷ judged 0x2F v (leb v 3) _ refl refl
+    ▷ judged 0x2F v (xHighFits v) _ refl refl
     ▷ plain 0x30 v (λ d. refl)
     ▷ plain 0x31 v (λ d. refl)
     ▷ plain 0x32 v (λ d. refl)
-    ▷ judged 0x33 v (leb v 191) _ refl refl
+    ▷ judged 0x33 v (ulaYFits v) _ refl refl
     ▷ plain 0x40 v (λ d. refl)
     ▷ judged 0x42 v (isMask v) _ refl refl
     ▷ judged 0x43 v (isChoice v) _ refl refl
     ▷ plain 0x4A v (λ d. refl)
-    ▷ judged 0x4C v (leb v 15) _ refl refl
-    ▷ judged 0x68 v (eqb (v / 2 % 32) 0) _ refl refl
-    ▷ judged 0x6B v (eqb (v % 16) 0) _ refl refl
+    ▷ judged 0x4C v (tileTransparentFits v) _ refl refl
+    ▷ judged 0x68 v (ulaControlFits v) _ refl refl
+    ▷ judged 0x6B v (tileControlFits v) _ refl refl
     ▷ plain 0x6C v (λ d. refl)
     ▷ plain 0x6E (v % 64) (λ d. refl)
     ▷ plain 0x6F (v % 64) (λ d. refl)
@@ -110,8 +110,8 @@ pub clipReads : ClipReads
 unfolding ClipReads
 clipReads s h =
     let g = apart s h .0 in
-    let u : s .turns .ula % 4 ≡ s .turns .ula = omega (arith, leb-true (s .turns .ula) 3 (ula-turn s (g .turns))) in
-    let t : s .turns .tiles % 4 ≡ s .turns .tiles = omega (arith, leb-true (s .turns .tiles) 3 (tile-turn s (g .turns))) in
+    let u : s .turns .ula % 4 ≡ s .turns .ula = omega (arith, leb-true (s .turns .ula) 3 (ula-turn (s .turns) (g .turns))) in
+    let t : s .turns .tiles % 4 ≡ s .turns .tiles = omega (arith, leb-true (s .turns .tiles) 3 (tile-turn (s .turns) (g .turns))) in
     (read-row s 0x1A h ∙ ap (λ (i : ℕ). given (getD (s .ulaclip) i 0)) u, read-row s 0x1B h ∙ ap (λ (i : ℕ). given (getD (s .tileclip) i 0)) t)
 
 pub turnsReads : TurnsReads
@@ -119,13 +119,13 @@ unfolding TurnsReads
 turnsReads s h =
     let g = apart s h .0 in
     let e : s .turns .tiles % 4 * 64 + s .turns .ula % 4 ≡ s .turns .tiles * 64 + s .turns .ula =
-    omega (arith, leb-true (s .turns .ula) 3 (ula-turn s (g .turns)), leb-true (s .turns .tiles) 3 (tile-turn s (g .turns))) in
+    omega (arith, leb-true (s .turns .ula) 3 (ula-turn (s .turns) (g .turns)), leb-true (s .turns .tiles) 3 (tile-turn (s .turns) (g .turns))) in
     read-row s 0x1C h ∙ ap given e
 
 pub colourReads : ColourReads
 unfolding ColourReads
 colourReads s h =
-    let l : colourAt s ≤ 511 = colour-at (paletteAt (paletteChoice s) s) (s .palette .index) (palette-at (paletteChoice s) s (apart s h .1)) in
+    let l : colourAt s ≤ 511 = colour-at (paletteAt (paletteChoice s) s) (s .palette .index) (palette-lawful (paletteChoice s) s (apart s h .1)) in
     let e : colourAt s / 2 % 256 ≡ colourAt s / 2 = omega arith in
     (read-row s 0x41 h ∙ ap given e, read-row s 0x44 h)
 
@@ -158,28 +158,24 @@ portsReadBack s v b z h =
     let back : (n : ℕ) → readPort (writePort s n v .state) n ≡ readBy portReads (writeBy portWrites s n v .state) n =
     λ n. read-port-row (writePort s n v .state) n (lawfulStays .1 s n v b z h .0) ∙ ap (λ (a : Answer). readBy portReads (a .state) n) (port-row s n v h) in (
       λ e. back 0x00FF ∙ if-true (timexOn (s .ula)) _ _ e,
-      λ l. back 0xFF3B ∙ register-back s v l (z .registers),
+      λ l. back 0xFF3B ∙ register-back s v l (z .plus .long),
       λ l. back 0xFF3B ∙ mode-back s v l,
     )
 
 -- ---- the held half
 
 module _ (s : State) (first : ℕ) (h : lawfulState s ≡ true) (e : s .palette .held ≡ false) where
-  held-first : Palette
-  held-first = record { control = s .palette .control; index = s .palette .index; mask = s .palette .mask; held = true; half = first }
-
-  once : writeRegister s 0x44 first ≡ done (withPalette s held-first)
-  unfolding held-first
+  once : writeRegister s 0x44 first ≡ done (withPalette s (paletteWithHalf (s .palette) first))
   once = write-row s 0x44 first h ∙ if-false (s .palette .held) _ _ e
 
 pub nineOnce : NineOnce
-unfolding NineOnce held-first
+unfolding NineOnce
 nineOnce s first n h e = ap (λ (a : Answer). paletteAt n (a .state)) (once s first h e)
 
 pub nineTwice : NineTwice
-unfolding NineTwice LawfulStays held-first
+unfolding NineTwice LawfulStays
 nineTwice s first bit b l z h e =
-    let p = held-first s first h e in
+    let p = paletteWithHalf (s .palette) first in
     let s1 = withPalette s p in
     let o = once s first h e in
     let h1 : lawfulState s1 ≡ true = sym (ap (λ (a : Answer). lawfulState (a .state)) o) ∙ lawfulStays .0 s 0x44 first b z h .0 in
@@ -230,17 +226,17 @@ fourClipWrites = (
   λ s a b c d la lb lc ld z h.
       let p = split s h z in
       rw (four-writes ulaClipWritten ula-clip 0x1A (λ x v. refl) s a b c d la lb lc p)
-      (four (s .ulaclip) (s .turns .ula) a b c d (z .ulafour) (leb-true (s .turns .ula) 3 (ula-turn s (p .0 .turns)))),
+      (four (s .ulaclip) (s .turns .ula) a b c d (z .ulaclip .long) (leb-true (s .turns .ula) 3 (ula-turn (s .turns) (p .0 .turns)))),
   λ s a b c d la lb lc ld z h.
       let p = split s h z in
       rw (four-writes tileClipWritten tile-clip 0x1B (λ x v. refl) s a b c d la lb lc p)
-      (four (s .tileclip) (s .turns .tiles) a b c d (z .tilefour) (leb-true (s .turns .tiles) 3 (tile-turn s (p .0 .turns)))),
+      (four (s .tileclip) (s .turns .tiles) a b c d (z .tileclip .long) (leb-true (s .turns .tiles) 3 (tile-turn (s .turns) (p .0 .turns)))),
 )
 
 pub turnsRestarted : TurnsRestarted
 unfolding TurnsRestarted
 turnsRestarted s v l h =
-    let w : writeRegister s 0x1C v ≡ done (withTurns s (record { ula = restarted (v / 4 % 2) (s .turns .ula); tiles = restarted (v / 8 % 2) (s .turns .tiles) })) =
+    let w : writeRegister s 0x1C v ≡ done (withTurns s (turnsWithTiles (turnsWithUla (s .turns) (restarted (v / 4 % 2) (s .turns .ula))) (restarted (v / 8 % 2) (s .turns .tiles)))) =
     write-row s 0x1C v h ∙ if-true (leb v 15) _ _ (le-leb v 15 l) in
     let u = ap (λ (a : Answer). a .state .turns .ula) w in
     let t = ap (λ (a : Answer). a .state .turns .tiles) w in (

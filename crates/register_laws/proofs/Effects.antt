@@ -1,158 +1,182 @@
--- Each row of the two tables is sound: a lawful state stays lawful under it, and a refusal changes nothing.
-use mathlib.Core.Path.{_≡_, refl, _∙_}
-use mathlib.Core.Bool.{Bool, true, false, _&&_, _||_}
+-- Each row of the two tables is sound: a lawful and typed state stays so under it, and a refusal changes nothing.
+use mathlib.Core.Path.{_≡_, refl}
+use mathlib.Core.Bool.{Bool, true, _&&_}
 use Prim.Native.Nat.{ℕ, _+_, _*_, _/_, _%_, _≤_, _<_}
 use native.Mathlib.Omega.{arith}
-use lib.ListN.{set, length-set}
-use lib.Dec.{leb, ltb, eqb, lit<}
+use lib.ListN.{set}
+use lib.Dec.{leb, eqb}
 use borrow.Author.Tests.{le-leb, lt-ltb, leb-true}
+use Rattle.lists.proofs.Cond.{either, both, left-true, right-true}
 use Rattle.state.specs.declared.State.{State}
 use Rattle.state.specs.declared.Tiles.{Tiles}
 use Rattle.state.specs.declared.Palette.{Palette}
+use Rattle.state.specs.declared.Turns.{Turns}
 use Rattle.state.specs.declared.Ports.{Ports}
-use Rattle.state.specs.Bounds.{isMask, isChoice}
+use Rattle.state.specs.Bounds.{ulaYFits, ulaControlFits, isMask, isChoice, halfFits, tileTransparentFits, tileControlFits, xHighFits, baseFits, turnFits, borderFits, selectFits}
 use Rattle.state.specs.Lawful.{lawfulTiles, lawfulPalette, lawfulTurns, lawfulPorts}
+use Rattle.state.specs.Typed.{PaletteTyped, TurnsTyped}
 use Rattle.state.specs.Answer.{done}
-use Rattle.state.specs.With.{withUla, withTiles, withPalette, withTurns, withPorts, withUlaClip, withTileClip, withPlus}
+use Rattle.state.specs.Groups.{ulaWithTransparent, ulaWithLayers, ulaWithPeripheral, ulaWithFallback, ulaWithControl, ulaWithX, ulaWithY, tilesWithTransparent, tilesWithControl, tilesWithAttribute, tilesWithXHigh, tilesWithXLow, tilesWithY, tilesWithMap, tilesWithDefinitions, paletteWithControl, paletteWithIndex, paletteWithMask, paletteWithHalf, paletteWithoutHalf, turnsWithUla, turnsWithTiles, portsWithBorder, portsWithTimex, portsWithSelect, portsWithPlus}
+use Rattle.state.specs.With.{withTurns, withUlaClip, withTileClip, withPlus}
+use Rattle.state.proofs.Typed as typed
 use Rattle.colour.specs.Bytes.{widened}
-use Rattle.state.specs.Groups.{ulaWithTransparent, ulaWithLayers, ulaWithPeripheral, ulaWithFallback, ulaWithControl, ulaWithX, ulaWithY, tilesWithTransparent, tilesWithControl, tilesWithAttribute, tilesWithXHigh, tilesWithXLow, tilesWithY, tilesWithMap, tilesWithDefinitions}
 use Rattle.register_stored.specs.Stored.{peripheralWritten, transparentWritten, layersWritten, tileXHighWritten, tileXLowWritten, tileYWritten, ulaXWritten, ulaYWritten, fallbackWritten, tileTransparentWritten, ulaControlWritten, tileControlWritten, tileAttributeWritten, mapWritten, definitionsWritten}
 use Rattle.register_clips.specs.Clips.{coordinate, nextTurn, ulaClipWritten, tileClipWritten, restarted, turnsWritten}
-use Rattle.register_palettes.specs.Palettes.{paletteAt, paletteChoice, colourStored, colourPut, indexWritten, eightWritten, maskWritten, controlWritten, nineFirst, nineSecond, nineWritten}
+use Rattle.register_palettes.specs.Palettes.{paletteAt, paletteChoice, nextIndex, colourStored, colourPut, indexWritten, eightWritten, maskWritten, controlWritten, nineFirst, nineSecond, nineWritten}
 use Rattle.register_ports.specs.Ports.{borderWritten, timexWritten, selectWritten, modeGroup, modeWritten, plusWritten, portWrites}
 use Rattle.registers.specs.Registers.{registerWrites}
 use Rattle.register_laws.specs.Claims.{Each, none, _▷_}
-use Rattle.register_laws.proofs.Parts.{Parts, and-l, and-r, both, either, with-ula, with-tiles, with-palette, with-turns, with-ports, with-ulaclip, with-tileclip, with-plus, set-colours, palette-at, with-palette-at}
-use Rattle.register_laws.proofs.Rows.{Sound, always, judged, chosen}
+use Rattle.register_laws.proofs.Parts.{Parts, ula-group, tiles-group, palette-group, turns-group, ports-group, set-colours, palette-lawful, palette-typed, with-palette-at}
+use Rattle.register_laws.proofs.Rows.{Sound, always, judged, stored, stored-if, chosen}
 
 -- ---- the ULA's registers
 
 pub peripheral : Sound peripheralWritten
-peripheral = always (λ s v. withUla s (ulaWithPeripheral (s .ula) v)) (λ s v b p. with-ula s _ p (p .0 .ula))
+peripheral = stored ula-group ulaWithPeripheral (λ u v h. h) typed.ula-peripheral
 
 pub transparent : Sound transparentWritten
-transparent = always (λ s v. withUla s (ulaWithTransparent (s .ula) v)) (λ s v b p. with-ula s _ p (p .0 .ula))
+transparent = stored ula-group ulaWithTransparent (λ u v h. h) typed.ula-transparent
 
 pub layers : Sound layersWritten
-layers = always (λ s v. withUla s (ulaWithLayers (s .ula) v)) (λ s v b p. with-ula s _ p (p .0 .ula))
+layers = stored ula-group ulaWithLayers (λ u v h. h) typed.ula-layers
 
 pub ula-x : Sound ulaXWritten
-ula-x = always (λ s v. withUla s (ulaWithX (s .ula) v)) (λ s v b p. with-ula s _ p (p .0 .ula))
+ula-x = stored ula-group ulaWithX (λ u v h. h) typed.ula-x
 
 pub fallback : Sound fallbackWritten
-fallback = always (λ s v. withUla s (ulaWithFallback (s .ula) v)) (λ s v b p. with-ula s _ p (p .0 .ula))
+fallback = stored ula-group ulaWithFallback (λ u v h. h) typed.ula-fallback
 
 pub ula-y : Sound ulaYWritten
-ula-y =
-    judged (λ v. leb v 191) (λ s v. withUla s (ulaWithY (s .ula) v))
-    (λ s v b e p. with-ula s _ p (both (leb v 191) _ e (and-r (leb (s .ula .y) 191) (eqb (s .ula .control / 2 % 32) 0) (p .0 .ula))))
+ula-y = stored-if ula-group ulaYFits ulaWithY (λ u v e h. both (ulaYFits v) _ e (right-true (ulaYFits (u .y)) (ulaControlFits (u .control)) h)) typed.ula-y
 
 pub ula-control : Sound ulaControlWritten
 ula-control =
-    judged (λ v. eqb (v / 2 % 32) 0) (λ s v. withUla s (ulaWithControl (s .ula) v))
-    (λ s v b e p. with-ula s _ p (both (leb (s .ula .y) 191) _ (and-l (leb (s .ula .y) 191) (eqb (s .ula .control / 2 % 32) 0) (p .0 .ula)) e))
+    stored-if ula-group ulaControlFits ulaWithControl
+    (λ u v e h. both (ulaYFits (u .y)) _ (left-true (ulaYFits (u .y)) (ulaControlFits (u .control)) h) e) typed.ula-control
 
 -- ---- the tilemap's registers
 
 -- the five bounds of the group, each by itself
 record TileParts (t : Tiles) : Type 0 where
-  transparent : leb (t .transparent) 15 ≡ true
-  control : eqb (t .control % 16) 0 ≡ true
-  xhigh : leb (t .xhigh) 3 ≡ true
-  map : ltb (t .map) 64 ≡ true
-  definitions : ltb (t .definitions) 64 ≡ true
+  transparent : tileTransparentFits (t .transparent) ≡ true
+  control : tileControlFits (t .control) ≡ true
+  xhigh : xHighFits (t .xhigh) ≡ true
+  map : baseFits (t .map) ≡ true
+  definitions : baseFits (t .definitions) ≡ true
 
 all-five : (a b c d e : Bool) → a ≡ true → b ≡ true → c ≡ true → d ≡ true → e ≡ true → (a && b && c && d && e) ≡ true
 all-five a b c d e p q r s t = rw (p, q, r, s, t)
 
 tile-parts : (t : Tiles) → lawfulTiles t ≡ true → TileParts t
 tile-parts t h5 =
-    let a1 = leb (t .transparent) 15 in
-    let a2 : Bool = a1 && eqb (t .control % 16) 0 in
-    let a3 : Bool = a2 && leb (t .xhigh) 3 in
-    let a4 : Bool = a3 && ltb (t .map) 64 in
-    let h4 = and-l a4 (ltb (t .definitions) 64) h5 in
-    let h3 = and-l a3 (ltb (t .map) 64) h4 in
-    let h2 = and-l a2 (leb (t .xhigh) 3) h3 in
+    let a1 = tileTransparentFits (t .transparent) in
+    let a2 : Bool = a1 && tileControlFits (t .control) in
+    let a3 : Bool = a2 && xHighFits (t .xhigh) in
+    let a4 : Bool = a3 && baseFits (t .map) in
+    let h4 = left-true a4 (baseFits (t .definitions)) h5 in
+    let h3 = left-true a3 (baseFits (t .map)) h4 in
+    let h2 = left-true a2 (xHighFits (t .xhigh)) h3 in
     record {
-      transparent = and-l a1 (eqb (t .control % 16) 0) h2;
-      control = and-r a1 (eqb (t .control % 16) 0) h2;
-      xhigh = and-r a2 (leb (t .xhigh) 3) h3;
-      map = and-r a3 (ltb (t .map) 64) h4;
-      definitions = and-r a4 (ltb (t .definitions) 64) h5;
+      transparent = left-true a1 (tileControlFits (t .control)) h2;
+      control = right-true a1 (tileControlFits (t .control)) h2;
+      xhigh = right-true a2 (xHighFits (t .xhigh)) h3;
+      map = right-true a3 (baseFits (t .map)) h4;
+      definitions = right-true a4 (baseFits (t .definitions)) h5;
     }
 
 pub tile-attribute : Sound tileAttributeWritten
-tile-attribute = always (λ s v. withTiles s (tilesWithAttribute (s .tiles) v)) (λ s v b p. with-tiles s _ p (p .0 .tiles))
+tile-attribute = stored tiles-group tilesWithAttribute (λ t v h. h) typed.tiles-attribute
 
 pub tile-x-low : Sound tileXLowWritten
-tile-x-low = always (λ s v. withTiles s (tilesWithXLow (s .tiles) v)) (λ s v b p. with-tiles s _ p (p .0 .tiles))
+tile-x-low = stored tiles-group tilesWithXLow (λ t v h. h) typed.tiles-xlow
 
 pub tile-y : Sound tileYWritten
-tile-y = always (λ s v. withTiles s (tilesWithY (s .tiles) v)) (λ s v b p. with-tiles s _ p (p .0 .tiles))
+tile-y = stored tiles-group tilesWithY (λ t v h. h) typed.tiles-y
 
 pub tile-transparent : Sound tileTransparentWritten
 tile-transparent =
-    judged (λ v. leb v 15) (λ s v. withTiles s (tilesWithTransparent (s .tiles) v))
-    (λ s v b e p. let q = tile-parts (s .tiles) (p .0 .tiles) in with-tiles s _ p (all-five _ _ _ _ _ e (q .control) (q .xhigh) (q .map) (q .definitions)))
+    stored-if tiles-group tileTransparentFits tilesWithTransparent
+    (λ t v e h. let q = tile-parts t h in all-five _ _ _ _ _ e (q .control) (q .xhigh) (q .map) (q .definitions)) typed.tiles-transparent
 
 pub tile-control : Sound tileControlWritten
 tile-control =
-    judged (λ v. eqb (v % 16) 0) (λ s v. withTiles s (tilesWithControl (s .tiles) v))
-    (λ s v b e p. let q = tile-parts (s .tiles) (p .0 .tiles) in with-tiles s _ p (all-five _ _ _ _ _ (q .transparent) e (q .xhigh) (q .map) (q .definitions)))
+    stored-if tiles-group tileControlFits tilesWithControl
+    (λ t v e h. let q = tile-parts t h in all-five _ _ _ _ _ (q .transparent) e (q .xhigh) (q .map) (q .definitions)) typed.tiles-control
 
 pub tile-x-high : Sound tileXHighWritten
 tile-x-high =
-    judged (λ v. leb v 3) (λ s v. withTiles s (tilesWithXHigh (s .tiles) v))
-    (λ s v b e p. let q = tile-parts (s .tiles) (p .0 .tiles) in with-tiles s _ p (all-five _ _ _ _ _ (q .transparent) (q .control) e (q .map) (q .definitions)))
+    stored-if tiles-group xHighFits tilesWithXHigh
+    (λ t v e h. let q = tile-parts t h in all-five _ _ _ _ _ (q .transparent) (q .control) e (q .map) (q .definitions)) typed.tiles-xhigh
+
+-- what is kept of a byte fits a base
+base-below : (v : ℕ) → baseFits (v % 64) ≡ true
+base-below v = lt-ltb (v % 64) 64 (omega arith)
 
 pub map : Sound mapWritten
 map =
-    always (λ s v. withTiles s (tilesWithMap (s .tiles) (v % 64)))
-    (λ s v b p. let q = tile-parts (s .tiles) (p .0 .tiles) in with-tiles s _ p (all-five _ _ _ _ _ (q .transparent) (q .control) (q .xhigh) (lt-ltb (v % 64) 64 (omega arith)) (q .definitions)))
+    stored tiles-group (λ t v. tilesWithMap t (v % 64))
+    (λ t v h. let q = tile-parts t h in all-five _ _ _ _ _ (q .transparent) (q .control) (q .xhigh) (base-below v) (q .definitions))
+    (λ t v b z. typed.tiles-map t (v % 64) (omega arith) z)
 
 pub definitions : Sound definitionsWritten
 definitions =
-    always (λ s v. withTiles s (tilesWithDefinitions (s .tiles) (v % 64)))
-    (λ s v b p. let q = tile-parts (s .tiles) (p .0 .tiles) in with-tiles s _ p (all-five _ _ _ _ _ (q .transparent) (q .control) (q .xhigh) (q .map) (lt-ltb (v % 64) 64 (omega arith))))
+    stored tiles-group (λ t v. tilesWithDefinitions t (v % 64))
+    (λ t v h. let q = tile-parts t h in all-five _ _ _ _ _ (q .transparent) (q .control) (q .xhigh) (q .map) (base-below v))
+    (λ t v b z. typed.tiles-definitions t (v % 64) (omega arith) z)
 
 -- ---- the clips and their turns
 
-turn-below : (turn : ℕ) → leb (nextTurn turn) 3 ≡ true
-turn-below turn = le-leb (nextTurn turn) 3 (omega arith)
+turn-fits : (turn : ℕ) → turnFits (nextTurn turn) ≡ true
+turn-fits turn = le-leb (nextTurn turn) 3 (omega arith)
 
-pub ula-turn : (s : State) → lawfulTurns (s .turns) ≡ true → leb (s .turns .ula) 3 ≡ true
-ula-turn s h = and-l (leb (s .turns .ula) 3) (leb (s .turns .tiles) 3) h
+turn-byte : (turn : ℕ) → nextTurn turn < 256
+turn-byte turn = omega arith
 
-pub tile-turn : (s : State) → lawfulTurns (s .turns) ≡ true → leb (s .turns .tiles) 3 ≡ true
-tile-turn s h = and-r (leb (s .turns .ula) 3) (leb (s .turns .tiles) 3) h
+pub ula-turn : (r : Turns) → lawfulTurns r ≡ true → turnFits (r .ula) ≡ true
+ula-turn r h = left-true (turnFits (r .ula)) (turnFits (r .tiles)) h
 
-restart-below : (bit turn : ℕ) → leb turn 3 ≡ true → leb (restarted bit turn) 3 ≡ true
-restart-below bit turn h = either (λ k. leb k 3 ≡ true) (eqb bit 1) 0 turn refl h
+pub tile-turn : (r : Turns) → lawfulTurns r ≡ true → turnFits (r .tiles) ≡ true
+tile-turn r h = right-true (turnFits (r .ula)) (turnFits (r .tiles)) h
 
 pub ula-clip : Sound ulaClipWritten
 ula-clip =
-    always
-    (λ s v. withTurns (withUlaClip s (set (s .ulaclip) (coordinate (s .turns .ula)) v)) (record { ula = nextTurn (s .turns .ula); tiles = s .turns .tiles }))
+    always (λ s v. withTurns (withUlaClip s (set (s .ulaclip) (coordinate (s .turns .ula)) v)) (turnsWithUla (s .turns) (nextTurn (s .turns .ula))))
     (λ s v b p.
-    with-turns (withUlaClip s (set (s .ulaclip) (coordinate (s .turns .ula)) v)) _ (with-ulaclip s _ p (length-set (s .ulaclip) (coordinate (s .turns .ula)) v ∙ p .2 .ulafour))
-    (both _ _ (turn-below (s .turns .ula)) (tile-turn s (p .0 .turns))))
+    let r = s .turns in
+    let l = set (s .ulaclip) (coordinate (r .ula)) v in
+    let q = typed.with-ulaclip s (p .2) l (typed.numbers-set (coordinate (r .ula)) v b (p .2 .ulaclip)) in
+    turns-group .takes (withUlaClip s l) _ (p .0, p .1, q) (both _ _ (turn-fits (r .ula)) (tile-turn r (p .0 .turns)))
+    (typed.turns-ula r (nextTurn (r .ula)) (turn-byte (r .ula)) (p .2 .turns)))
 
 pub tile-clip : Sound tileClipWritten
 tile-clip =
-    always
-    (λ s v. withTurns (withTileClip s (set (s .tileclip) (coordinate (s .turns .tiles)) v)) (record { ula = s .turns .ula; tiles = nextTurn (s .turns .tiles) }))
+    always (λ s v. withTurns (withTileClip s (set (s .tileclip) (coordinate (s .turns .tiles)) v)) (turnsWithTiles (s .turns) (nextTurn (s .turns .tiles))))
     (λ s v b p.
-    with-turns (withTileClip s (set (s .tileclip) (coordinate (s .turns .tiles)) v)) _ (with-tileclip s _ p (length-set (s .tileclip) (coordinate (s .turns .tiles)) v ∙ p .2 .tilefour))
-    (both _ _ (ula-turn s (p .0 .turns)) (turn-below (s .turns .tiles))))
+    let r = s .turns in
+    let l = set (s .tileclip) (coordinate (r .tiles)) v in
+    let q = typed.with-tileclip s (p .2) l (typed.numbers-set (coordinate (r .tiles)) v b (p .2 .tileclip)) in
+    turns-group .takes (withTileClip s l) _ (p .0, p .1, q) (both _ _ (ula-turn r (p .0 .turns)) (turn-fits (r .tiles)))
+    (typed.turns-tiles r (nextTurn (r .tiles)) (turn-byte (r .tiles)) (p .2 .turns)))
+
+-- both turns after $1C
+abbrev restartedBoth : Turns → ℕ → Turns
+restartedBoth r v = turnsWithTiles (turnsWithUla r (restarted (v / 4 % 2) (r .ula))) (restarted (v / 8 % 2) (r .tiles))
+
+restart-fits : (bit turn : ℕ) → turnFits turn ≡ true → turnFits (restarted bit turn) ≡ true
+restart-fits bit turn h = either (λ k. turnFits k ≡ true) (eqb bit 1) 0 turn refl h
+
+restart-byte : (bit turn : ℕ) → turn < 256 → restarted bit turn < 256
+restart-byte bit turn h = either (λ k. k < 256) (eqb bit 1) 0 turn (omega arith) h
+
+restarts-typed : (r : Turns) (v : ℕ) → v < 256 → TurnsTyped r → TurnsTyped (restartedBoth r v)
+restarts-typed r v b z =
+    typed.turns-tiles (turnsWithUla r (restarted (v / 4 % 2) (r .ula))) _ (restart-byte (v / 8 % 2) (r .tiles) (z .tiles))
+    (typed.turns-ula r _ (restart-byte (v / 4 % 2) (r .ula) (z .ula)) z)
 
 pub turns : Sound turnsWritten
 turns =
-    judged (λ v. leb v 15)
-    (λ s v. withTurns s (record { ula = restarted (v / 4 % 2) (s .turns .ula); tiles = restarted (v / 8 % 2) (s .turns .tiles) }))
-    (λ s v b e p.
-    with-turns s _ p
-    (both _ _ (restart-below (v / 4 % 2) (s .turns .ula) (ula-turn s (p .0 .turns))) (restart-below (v / 8 % 2) (s .turns .tiles) (tile-turn s (p .0 .turns)))))
+    stored-if turns-group (λ v. leb v 15) restartedBoth
+    (λ r v e h. both _ _ (restart-fits (v / 4 % 2) (r .ula) (ula-turn r h)) (restart-fits (v / 8 % 2) (r .tiles) (tile-turn r h))) restarts-typed
 
 -- ---- the palette registers
 
@@ -160,40 +184,45 @@ all-three : (a b c : Bool) → a ≡ true → b ≡ true → c ≡ true → (a &
 all-three a b c p q r = rw (p, q, r)
 
 module _ (p : Palette) (h : lawfulPalette p ≡ true) where
+  mask-choice : (isMask (p .mask) && isChoice (p .control)) ≡ true
+  mask-choice = left-true (isMask (p .mask) && isChoice (p .control)) (halfFits (p .held) (p .half)) h
+
   mask-of : isMask (p .mask) ≡ true
-  mask-of =
-      and-l (isMask (p .mask)) (isChoice (p .control)) (and-l (isMask (p .mask) && isChoice (p .control)) (p .held || eqb (p .half) 0) h)
+  mask-of = left-true (isMask (p .mask)) (isChoice (p .control)) mask-choice
 
   choice-of : isChoice (p .control) ≡ true
-  choice-of =
-      and-r (isMask (p .mask)) (isChoice (p .control)) (and-l (isMask (p .mask) && isChoice (p .control)) (p .held || eqb (p .half) 0) h)
+  choice-of = right-true (isMask (p .mask)) (isChoice (p .control)) mask-choice
 
-  half-of : (p .held || eqb (p .half) 0) ≡ true
-  half-of = and-r (isMask (p .mask) && isChoice (p .control)) (p .held || eqb (p .half) 0) h
+  half-of : halfFits (p .held) (p .half) ≡ true
+  half-of = right-true (isMask (p .mask) && isChoice (p .control)) (halfFits (p .held) (p .half)) h
+
+-- the index moved and no half held
+moved-typed : (p : Palette) (v : ℕ) → v < 256 → PaletteTyped p → PaletteTyped (paletteWithoutHalf (paletteWithIndex p v))
+moved-typed p v b z = typed.palette-without-half (paletteWithIndex p v) (typed.palette-index p v b z)
 
 pub index : Sound indexWritten
-index =
-    always (λ s v. withPalette s (record { control = s .palette .control; index = v; mask = s .palette .mask; held = false; half = 0 }))
-    (λ s v b p. let q = p .0 .palette in with-palette s _ p (all-three _ _ _ (mask-of (s .palette) q) (choice-of (s .palette) q) refl) (lit< tt))
+index = stored palette-group (λ p v. paletteWithoutHalf (paletteWithIndex p v)) (λ p v h. all-three _ _ _ (mask-of p h) (choice-of p h) refl) moved-typed
 
 pub mask : Sound maskWritten
-mask =
-    judged (λ v. isMask v)
-    (λ s v. withPalette s (record { control = s .palette .control; index = s .palette .index; mask = v; held = s .palette .held; half = s .palette .half }))
-    (λ s v b e p. let q = p .0 .palette in with-palette s _ p (all-three _ _ _ e (choice-of (s .palette) q) (half-of (s .palette) q)) (p .2 .byte))
+mask = stored-if palette-group isMask paletteWithMask (λ p v e h. all-three _ _ _ e (choice-of p h) (half-of p h)) typed.palette-mask
 
 pub control : Sound controlWritten
 control =
-    judged (λ v. isChoice v)
-    (λ s v. withPalette s (record { control = v; index = s .palette .index; mask = s .palette .mask; held = false; half = 0 }))
-    (λ s v b e p. let q = p .0 .palette in with-palette s _ p (all-three _ _ _ (mask-of (s .palette) q) e refl) (lit< tt))
+    stored-if palette-group isChoice (λ p v. paletteWithoutHalf (paletteWithControl p v)) (λ p v e h. all-three _ _ _ (mask-of p h) e refl)
+    (λ p v b z. typed.palette-without-half (paletteWithControl p v) (typed.palette-control p v b z))
+
+next-byte : (k i : ℕ) → i < 256 → nextIndex k i < 256
+next-byte k i l = either (λ j. j < 256) (leb 128 k) i ((i + 1) % 256) l (omega arith)
 
 put-kept : (s : State) (c : ℕ) → c ≤ 511 → Parts s → Parts (colourPut s c)
 put-kept s c l p =
-    let q = p .0 .palette in
+    let o = s .palette in
     let n = paletteChoice s in
-    with-palette (colourStored s n (s .palette .index) c) _ (with-palette-at n s _ p (set-colours (paletteAt n s) (s .palette .index) c (palette-at n s (p .1)) l))
-    (all-three _ _ _ (mask-of (s .palette) q) (choice-of (s .palette) q) refl) (lit< tt)
+    let h = set-colours (paletteAt n s) (o .index) c (palette-lawful n s (p .1)) l in
+    let m = typed.numbers-set (o .index) c (omega arith) (palette-typed n s (p .2)) in
+    palette-group .takes (colourStored s n (o .index) c) _ (with-palette-at n s _ p h m)
+    (all-three _ _ _ (mask-of o (p .0 .palette)) (choice-of o (p .0 .palette)) refl)
+    (moved-typed o (nextIndex (o .control) (o .index)) (next-byte (o .control) (o .index) (p .2 .palette .index)) (p .2 .palette))
 
 widened-below : (v : ℕ) → v < 256 → widened v ≤ 511
 unfolding widened
@@ -203,51 +232,43 @@ pub eight : Sound eightWritten
 eight = always (λ s v. colourPut s (widened v)) (λ s v b p. put-kept s (widened v) (widened-below v b) p)
 
 first : Sound nineFirst
-first =
-    always (λ s v. withPalette s (record { control = s .palette .control; index = s .palette .index; mask = s .palette .mask; held = true; half = v }))
-    (λ s v b p. let q = p .0 .palette in with-palette s _ p (all-three _ _ _ (mask-of (s .palette) q) (choice-of (s .palette) q) refl) b)
+first = stored palette-group paletteWithHalf (λ p v h. all-three _ _ _ (mask-of p h) (choice-of p h) refl) typed.palette-half
 
 second : Sound nineSecond
 second =
     judged (λ v. leb v 1) (λ s v. colourPut s (s .palette .half * 2 + v))
-    (λ s v b e p. put-kept s _ (omega (arith, leb-true v 1 e, p .2 .byte)) p)
+    (λ s v b e p. put-kept s _ (omega (arith, leb-true v 1 e, p .2 .palette .half)) p)
 
 pub nine : Sound nineWritten
 nine = chosen (λ s. s .palette .held) nineSecond nineFirst second first
 
 -- ---- the ports
 
-border-of : (o : Ports) → lawfulPorts o ≡ true → leb (o .border) 7 ≡ true
-border-of o h = and-l (leb (o .border) 7) (ltb (o .select) 128) h
+border-of : (o : Ports) → lawfulPorts o ≡ true → borderFits (o .border) ≡ true
+border-of o h = left-true (borderFits (o .border)) (selectFits (o .select)) h
 
-select-of : (o : Ports) → lawfulPorts o ≡ true → ltb (o .select) 128 ≡ true
-select-of o h = and-r (leb (o .border) 7) (ltb (o .select) 128) h
+select-of : (o : Ports) → lawfulPorts o ≡ true → selectFits (o .select) ≡ true
+select-of o h = right-true (borderFits (o .border)) (selectFits (o .select)) h
 
 pub border : Sound borderWritten
 border =
-    always (λ s v. withPorts s (record { border = v % 8; timex = s .ports .timex; select = s .ports .select; plus = s .ports .plus }))
-    (λ s v b p. with-ports s _ p (both _ _ (le-leb (v % 8) 7 (omega arith)) (select-of (s .ports) (p .0 .ports))))
+    stored ports-group (λ o v. portsWithBorder o (v % 8)) (λ o v h. both _ _ (le-leb (v % 8) 7 (omega arith)) (select-of o h))
+    (λ o v b z. typed.ports-border o (v % 8) (omega arith) z)
 
 pub timex : Sound timexWritten
-timex =
-    always (λ s v. withPorts s (record { border = s .ports .border; timex = v; select = s .ports .select; plus = s .ports .plus }))
-    (λ s v b p. with-ports s _ p (p .0 .ports))
+timex = stored ports-group portsWithTimex (λ o v h. h) typed.ports-timex
 
 pub select : Sound selectWritten
-select =
-    judged (λ v. ltb v 128) (λ s v. withPorts s (record { border = s .ports .border; timex = s .ports .timex; select = v; plus = s .ports .plus }))
-    (λ s v b e p. with-ports s _ p (both _ _ (border-of (s .ports) (p .0 .ports)) e))
+select = stored-if ports-group selectFits portsWithSelect (λ o v e h. both _ _ (border-of o h) e) typed.ports-select
 
 mode : Sound modeWritten
-mode =
-    always (λ s v. withPorts s (record { border = s .ports .border; timex = s .ports .timex; select = s .ports .select; plus = eqb (v % 2) 1 }))
-    (λ s v b p. with-ports s _ p (p .0 .ports))
+mode = stored ports-group (λ o v. portsWithPlus o (eqb (v % 2) 1)) (λ o v h. h) (λ o v b z. typed.ports-plus o (eqb (v % 2) 1) z)
 
 pub plus : Sound plusWritten
 plus =
     chosen modeGroup modeWritten (λ s v. done (withPlus s (set (s .plus) (s .ports .select) v))) mode
     (always (λ s v. withPlus s (set (s .plus) (s .ports .select) v))
-    (λ s v b p. with-plus s _ p (length-set (s .plus) (s .ports .select) v ∙ p .2 .registers)))
+    (λ s v b p. (p .0, p .1, typed.with-plus s (p .2) (set (s .plus) (s .ports .select) v) (typed.numbers-set (s .ports .select) v b (p .2 .plus)))))
 
 -- ---- the two tables
 

@@ -2,14 +2,15 @@
 use mathlib.Core.Path.{_≡_, refl}
 use mathlib.Core.List.{[], _∷_}
 use mathlib.Core.Bool.{Bool, true, false}
-use Prim.Native.Nat.{ℕ, _/_, _%_}
-use lib.Dec.{leb, ltb, eqb}
+use Prim.Native.Nat.{ℕ}
+use lib.Dec.{leb, eqb}
+use Rattle.lists.proofs.Cond.{either}
 use Rattle.reply.specs.declared.Reply.the-variants.{NotLawful, OutOfBounds}
 use Rattle.state.specs.declared.State.{State}
 use Rattle.state.specs.declared.Palette.{Palette}
 use Rattle.state.specs.declared.Answer.{Answer}
 use Rattle.state.specs.Answer.{done, refused}
-use Rattle.state.specs.Bounds.{isMask}
+use Rattle.state.specs.Bounds.{isMask, ulaYFits, tileTransparentFits, ulaControlFits, tileControlFits, xHighFits, selectFits}
 use Rattle.state.specs.Lawful.{lawfulState}
 use Rattle.state.specs.With.{withPalette}
 use Rattle.register_answers.specs.Answers.{ifFits, writeLawful}
@@ -18,7 +19,6 @@ use Rattle.register_palettes.specs.Palettes.{colourStored}
 use Rattle.register_ports.specs.Ports.{modeGroup, portWrites}
 use Rattle.registers.specs.Registers.{registerWrites}
 use Rattle.register_laws.specs.Claims.{Each, none, _▷_, SameHalf}
-use Rattle.register_laws.proofs.Parts.{either}
 use Rattle.register_laws.proofs.Rows.{by-row}
 
 -- a colour stored over another palette group
@@ -54,20 +54,20 @@ module _ (s : State) where
       ▷ (λ e. same)
       ▷ (λ e. same)
       ▷ (λ e. judged-same (leb v 15) _ same)
-      ▷ (λ e. judged-same (leb v 3) _ same)
+      ▷ (λ e. judged-same (xHighFits v) _ same)
       ▷ (λ e. same)
       ▷ (λ e. same)
       ▷ (λ e. same)
-      ▷ (λ e. judged-same (leb v 191) _ same)
+      ▷ (λ e. judged-same (ulaYFits v) _ same)
       ▷ (λ e. absurd (x0 e))
       ▷ (λ e. absurd (x1 e))
       ▷ (λ e. judged-same (isMask v) _ same)
       ▷ (λ e. absurd (x3 e))
       ▷ (λ e. absurd (x4 e))
       ▷ (λ e. same)
-      ▷ (λ e. judged-same (leb v 15) _ same)
-      ▷ (λ e. judged-same (eqb (v / 2 % 32) 0) _ same)
-      ▷ (λ e. judged-same (eqb (v % 16) 0) _ same)
+      ▷ (λ e. judged-same (tileTransparentFits v) _ same)
+      ▷ (λ e. judged-same (ulaControlFits v) _ same)
+      ▷ (λ e. judged-same (tileControlFits v) _ same)
       ▷ (λ e. same)
       ▷ (λ e. same)
       ▷ (λ e. same)
@@ -76,4 +76,4 @@ module _ (s : State) where
   pub ports-same : (n v : ℕ) → Same s (writeBy portWrites s n v)
   ports-same n v =
       by-row (Same s) portWrites s n v same
-      ((λ e. same) ▷ (λ e. same) ▷ (λ e. judged-same (ltb v 128) _ same) ▷ (λ e. either (Same s) (modeGroup s) _ _ same same) ▷ none)
+      ((λ e. same) ▷ (λ e. same) ▷ (λ e. judged-same (selectFits v) _ same) ▷ (λ e. either (Same s) (modeGroup s) _ _ same same) ▷ none)

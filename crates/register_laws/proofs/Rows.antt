@@ -5,6 +5,7 @@ use mathlib.Core.Bool.{Bool, true, false, cond}
 use Prim.Native.Nat.{ℕ, _<_}
 use lib.Dec.{eqb}
 use borrow.Author.Tests.{eqb-true}
+use Rattle.lists.proofs.Cond.{either}
 use Rattle.reply.specs.declared.Reply.the-variants.{Done, NoRegister}
 use Rattle.state.specs.declared.State.{State}
 use Rattle.state.specs.declared.Answer.{Answer}
@@ -12,7 +13,7 @@ use Rattle.state.specs.Answer.{done, refused}
 use Rattle.register_answers.specs.Answers.{ifFits}
 use Rattle.register_answers.specs.Rows.{WriteRow, writeBy}
 use Rattle.register_laws.specs.Claims.{Each, none, _▷_}
-use Rattle.register_laws.proofs.Parts.{Parts, either}
+use Rattle.register_laws.proofs.Parts.{Parts, Group}
 
 -- a row's effect keeps a lawful state lawful, and a refusal of it hands the same state back
 pub record Sound (f : State → ℕ → Answer) : Type 0 where
@@ -35,6 +36,20 @@ judged ok t k = record { kept = λ s v b p. keep (ok v) (t s v) s (λ e. k s v b
     same : (b : Bool) (x y : State) → (ifFits b x y .reply ≡ Done → ⊥) → ifFits b x y .state ≡ y
     same true x y h = absurd (h refl)
     same false x y h = refl
+
+-- the same of a write that changes one group alone
+module _ {G : Type 0} {get : State → G} {put : State → G → State} {lawful : G → Bool} {Fits : G → Type 0} (group : Group G get put lawful Fits) where
+  pub stored : (f : G → ℕ → G) → ((x : G) (v : ℕ) → lawful x ≡ true → lawful (f x v) ≡ true) → ((x : G) (v : ℕ) → v < 256 → Fits x → Fits (f x v))
+      → Sound (λ s v. done (put s (f (get s) v)))
+  stored f h t =
+      always (λ s v. put s (f (get s) v))
+      (λ s v b p. let x = get s in let q = group .has s p in group .takes s (f x v) p (h x v (q .0)) (t x v b (q .1)))
+
+  pub stored-if : (ok : ℕ → Bool) (f : G → ℕ → G) → ((x : G) (v : ℕ) → ok v ≡ true → lawful x ≡ true → lawful (f x v) ≡ true)
+      → ((x : G) (v : ℕ) → v < 256 → Fits x → Fits (f x v)) → Sound (λ s v. ifFits (ok v) (put s (f (get s) v)) s)
+  stored-if ok f h t =
+      judged ok (λ s v. put s (f (get s) v))
+      (λ s v b e p. let x = get s in let q = group .has s p in group .takes s (f x v) p (h x v e (q .0)) (t x v b (q .1)))
 
 -- one of two writes, as the state says
 pub chosen : (b : State → Bool) (f g : State → ℕ → Answer) → Sound f → Sound g → Sound (λ s v. cond (b s) (f s v) (g s v))

@@ -10,12 +10,12 @@ use Rattle.state.specs.declared.Answer.{Answer}
 use Rattle.state.specs.Answer.{done}
 use Rattle.state.specs.Bits.{timexOn}
 use Rattle.state.specs.Lawful.{lawfulState}
+use Rattle.state.specs.Typed.{Typed}
 use Rattle.state.specs.Groups.{paletteWithIndex, paletteWithoutHalf}
 use Rattle.state.specs.With.{withPalette}
 use Rattle.register_answers.specs.Answers.{given, unread}
 use Rattle.register_palettes.specs.Palettes.{paletteAt, withPaletteAt, paletteChoice, nextIndex}
 use Rattle.registers.specs.Registers.{writeRegister, writePort, readRegister, readPort}
-use Rattle.register_laws.specs.Bounds.{Typed}
 
 -- P of each member of a list
 pub data Each {A : Type 0} (P : A → Type 0) : List A → Type 0 where
@@ -29,7 +29,7 @@ Write = State → ℕ → ℕ → Answer
 
 -- ---- every write
 
--- whatever number and byte is written, a lawful state stays lawful
+-- whatever number and byte is written, a lawful and typed state stays lawful and typed
 abbrev pub StaysLawful : Write → Type 0
 StaysLawful write = (s : State) (n v : ℕ) → v < 256 → Typed s → lawfulState s ≡ true → (lawfulState (write s n v .state) ≡ true) × Typed (write s n v .state)
 

@@ -14,7 +14,7 @@ use Rattle.state.specs.Groups.{portsWithBorder, portsWithTimex, portsWithSelect
 use Rattle.state.specs.With.{withPorts, withPlus}
 use Rattle.register_answers.specs.declared.Reading.{Reading}
 use Rattle.register_answers.specs.Answers.{ifFits, given, unread}
-use Rattle.register_answers.specs.Rows.{WriteRow, writes, writeBy, ReadRow, reads, readBy}
+use Rattle.register_answers.specs.Rows.{WriteRow, writes, ReadRow, reads}
 
 -- $FE: the low three bits are the border
 abbrev pub borderWritten : State → ℕ → Answer

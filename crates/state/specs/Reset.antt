@@ -1,14 +1,11 @@
 -- The state and its registers: "Reset gives 0, palettes included, except where shown."
-use Prim.Native.Nat.{ℕ}
-use mathlib.Core.List.{List, [], _∷_}
+use mathlib.Core.List.{[], _∷_}
 use mathlib.Core.Bool.{false}
 use lib.ListN.{replicate}
 use Rattle.state.specs.declared.State.{State}
 use Rattle.state.specs.declared.Ula.{Ula}
 use Rattle.state.specs.declared.Tiles.{Tiles}
 use Rattle.state.specs.declared.Palette.{Palette}
-use Rattle.state.specs.declared.Turns.{Turns}
-use Rattle.state.specs.declared.Ports.{Ports}
 
 -- $14: reset $E3
 abbrev pub resetUla : Ula
