@@ -84,38 +84,38 @@ split s h z = let a = apart s h in (a .0, a .1, z)
 -- ---- one group replaced
 
 -- a group of a state, its lawful values and its types: a state's own has both, and one that has both may take its place
-pub record Group (G : Type 0) (get : State → G) (put : State → G → State) (lawful : G → Bool) (Fits : G → Type 0) : Type 0 where
-  pub has : (s : State) → Parts s → (lawful (get s) ≡ true) × Fits (get s)
-  pub takes : (s : State) (x : G) → Parts s → lawful x ≡ true → Fits x → Parts (put s x)
+pub record Group (G : Type 0) (get : State → G) (put : State → G → State) (lawful : G → Bool) (Types : G → Type 0) : Type 0 where
+  pub has : (s : State) → Parts s → (lawful (get s) ≡ true) × Types (get s)
+  pub takes : (s : State) (x : G) → Parts s → lawful x ≡ true → Types x → Parts (put s x)
 
 pub ula-group : Group Ula (λ s. s .ula) withUla lawfulUla UlaTyped
 ula-group = record {
   has = λ s p. (p .0 .ula, p .2 .ula);
-  takes = λ s x p h f. (record { ula = h; palette = p .0 .palette; tiles = p .0 .tiles; turns = p .0 .turns; ports = p .0 .ports }, p .1, typed.with-ula s (p .2) x f);
+  takes = λ s x p h t. (record { ula = h; palette = p .0 .palette; tiles = p .0 .tiles; turns = p .0 .turns; ports = p .0 .ports }, p .1, typed.with-ula s (p .2) x t);
 }
 
 pub tiles-group : Group Tiles (λ s. s .tiles) withTiles lawfulTiles TilesTyped
 tiles-group = record {
   has = λ s p. (p .0 .tiles, p .2 .tiles);
-  takes = λ s x p h f. (record { ula = p .0 .ula; palette = p .0 .palette; tiles = h; turns = p .0 .turns; ports = p .0 .ports }, p .1, typed.with-tiles s (p .2) x f);
+  takes = λ s x p h t. (record { ula = p .0 .ula; palette = p .0 .palette; tiles = h; turns = p .0 .turns; ports = p .0 .ports }, p .1, typed.with-tiles s (p .2) x t);
 }
 
 pub palette-group : Group Palette (λ s. s .palette) withPalette lawfulPalette PaletteTyped
 palette-group = record {
   has = λ s p. (p .0 .palette, p .2 .palette);
-  takes = λ s x p h f. (record { ula = p .0 .ula; palette = h; tiles = p .0 .tiles; turns = p .0 .turns; ports = p .0 .ports }, p .1, typed.with-palette s (p .2) x f);
+  takes = λ s x p h t. (record { ula = p .0 .ula; palette = h; tiles = p .0 .tiles; turns = p .0 .turns; ports = p .0 .ports }, p .1, typed.with-palette s (p .2) x t);
 }
 
 pub turns-group : Group Turns (λ s. s .turns) withTurns lawfulTurns TurnsTyped
 turns-group = record {
   has = λ s p. (p .0 .turns, p .2 .turns);
-  takes = λ s x p h f. (record { ula = p .0 .ula; palette = p .0 .palette; tiles = p .0 .tiles; turns = h; ports = p .0 .ports }, p .1, typed.with-turns s (p .2) x f);
+  takes = λ s x p h t. (record { ula = p .0 .ula; palette = p .0 .palette; tiles = p .0 .tiles; turns = h; ports = p .0 .ports }, p .1, typed.with-turns s (p .2) x t);
 }
 
 pub ports-group : Group Ports (λ s. s .ports) withPorts lawfulPorts PortsTyped
 ports-group = record {
   has = λ s p. (p .0 .ports, p .2 .ports);
-  takes = λ s x p h f. (record { ula = p .0 .ula; palette = p .0 .palette; tiles = p .0 .tiles; turns = p .0 .turns; ports = h }, p .1, typed.with-ports s (p .2) x f);
+  takes = λ s x p h t. (record { ula = p .0 .ula; palette = p .0 .palette; tiles = p .0 .tiles; turns = p .0 .turns; ports = h }, p .1, typed.with-ports s (p .2) x t);
 }
 
 -- ---- one palette replaced
@@ -132,7 +132,7 @@ colour-at (x ∷ xs) zero h = leb-true x 511 (left-true (colourFits x) (allColou
 colour-at (x ∷ xs) (suc i) h = colour-at xs i (right-true (colourFits x) (allColours xs) h)
 
 -- what holds of the four palettes holds of the one chosen
-pub palette-at : (P : List ℕ → Type 0) (n : ℕ) (s : State) → P (s .ulafirst) → P (s .ulasecond) → P (s .tilefirst) → P (s .tilesecond)
+palette-at : (P : List ℕ → Type 0) (n : ℕ) (s : State) → P (s .ulafirst) → P (s .ulasecond) → P (s .tilefirst) → P (s .tilesecond)
     → P (paletteAt n s)
 palette-at P n s a b c d = either P (eqb n 0) _ _ a (either P (eqb n 4) _ _ b (either P (eqb n 3) _ _ c d))
 

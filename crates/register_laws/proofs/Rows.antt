@@ -38,15 +38,15 @@ judged ok t k = record { kept = λ s v b p. keep (ok v) (t s v) s (λ e. k s v b
     same false x y h = refl
 
 -- the same of a write that changes one group alone
-module _ {G : Type 0} {get : State → G} {put : State → G → State} {lawful : G → Bool} {Fits : G → Type 0} (group : Group G get put lawful Fits) where
-  pub stored : (f : G → ℕ → G) → ((x : G) (v : ℕ) → lawful x ≡ true → lawful (f x v) ≡ true) → ((x : G) (v : ℕ) → v < 256 → Fits x → Fits (f x v))
+module _ {G : Type 0} {get : State → G} {put : State → G → State} {lawful : G → Bool} {Types : G → Type 0} (group : Group G get put lawful Types) where
+  pub stored : (f : G → ℕ → G) → ((x : G) (v : ℕ) → lawful x ≡ true → lawful (f x v) ≡ true) → ((x : G) (v : ℕ) → v < 256 → Types x → Types (f x v))
       → Sound (λ s v. done (put s (f (get s) v)))
   stored f h t =
       always (λ s v. put s (f (get s) v))
       (λ s v b p. let x = get s in let q = group .has s p in group .takes s (f x v) p (h x v (q .0)) (t x v b (q .1)))
 
   pub stored-if : (ok : ℕ → Bool) (f : G → ℕ → G) → ((x : G) (v : ℕ) → ok v ≡ true → lawful x ≡ true → lawful (f x v) ≡ true)
-      → ((x : G) (v : ℕ) → v < 256 → Fits x → Fits (f x v)) → Sound (λ s v. ifFits (ok v) (put s (f (get s) v)) s)
+      → ((x : G) (v : ℕ) → v < 256 → Types x → Types (f x v)) → Sound (λ s v. ifFits (ok v) (put s (f (get s) v)) s)
   stored-if ok f h t =
       judged ok (λ s v. put s (f (get s) v))
       (λ s v b e p. let x = get s in let q = group .has s p in group .takes s (f x v) p (h x v e (q .0)) (t x v b (q .1)))
