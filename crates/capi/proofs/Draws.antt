@@ -17,7 +17,7 @@ use Rattle.state.specs.declared.Ports.{Ports}
 use Rattle.surface.specs.Lines.{isLine}
 use Rattle.surface.specs.declared.lines.LineNumber.{LineNumber}
 use Rattle.record_layout.specs.Record.{readRecord, stateIn}
-use Rattle.record_layout.proofs.Claims.{long, answer, state-lawful}
+use Rattle.record_layout.proofs.RoundTrip.{long, answer, state-lawful}
 use Rattle.line.specs.Lines.{drawnLine}
 use Rattle.line.specs.Replies.{lineReply, lengthsReply, stateReply, firstOf, drawReply, drawnIf}
 use Rattle.line.proofs.Exits.{both-done, number-done, line-met, lengths-met, state-alone, left}

@@ -24,7 +24,7 @@ use Rattle.ula.proofs.Parts.{twice, shown-dots}
 use Rattle.tilemap.specs.Dots.{tileDot}
 use Rattle.tilemap.specs.Setup.{setupOf, windowOf}
 use Rattle.record_layout.specs.Fields.{pair, rowAt}
-use Rattle.record_layout.specs.Record.{stateIn}
+use Rattle.record_layout.specs.Record.{stateAs, stateIn}
 use Rattle.line.specs.Compose.{tileColour, composed}
 use Rattle.line.proofs.Shaded.{shown-colours}
 use Rattle.line.specs.Lines.{stencilOn, tilePalette, tileDotOf, composedDot, composedLine}
@@ -34,11 +34,11 @@ chosen b true x y = refl
 chosen b false x y = refl
 
 pub ula-palette-at : (b : List ℕ) (place : ℕ) → place ≡ cond (ulaSecondShown (stateIn b .palette)) 614 102 → rowAt pair 256 b place ≡ ulaPalette (stateIn b)
-unfolding ulaPalette stateIn
+unfolding ulaPalette stateAs
 ula-palette-at b place e = ap (rowAt pair 256 b) e ∙ chosen b (ulaSecondShown (stateIn b .palette)) 614 102
 
 pub tile-palette-at : (b : List ℕ) (place : ℕ) → place ≡ cond (tileSecondShown (stateIn b .tiles)) 1638 1126 → rowAt pair 256 b place ≡ tilePalette (stateIn b)
-unfolding tilePalette stateIn
+unfolding tilePalette stateAs
 tile-palette-at b place e = ap (rowAt pair 256 b) e ∙ chosen b (tileSecondShown (stateIn b .tiles)) 1638 1126
 
 -- the ULA's dots, from the parts that are read

@@ -12,7 +12,7 @@ use Rattle.lists.specs.Search.{least, some, all, firsts}
 
 -- what a search finds: nothing before it passes, and it passes unless it is the end
 pub record Found (p : ℕ → Bool) (n r : ℕ) : Type 0 where
-  pub within : r ≤ n
+  pub inside-or-end : r ≤ n
   pub before : (i : ℕ) → i < r → p i ≡ false
   pub here : r < n → p r ≡ true
 
@@ -21,19 +21,19 @@ pub below : (P : ℕ → Type 0) (n : ℕ) → ((k : ℕ) → k < n → P k) →
 below P n all here k l = ⊎-elim (λ e. subst P (sym e) here) (all k) (eq-or-lt-of-le (le-of-suc-le-suc l))
 
 found-step : (p : ℕ → Bool) (n r : ℕ) → Found p n r → (b : Bool) → ltb r n ≡ b → (q : Bool) → p n ≡ q → Found p (suc n) (cond b r (cond q n (suc n)))
-found-step p n r f true e q g = record { within = omega (arith, f .within); before = f .before; here = λ l. f .here (ltb-true r n e) }
+found-step p n r f true e q g = record { inside-or-end = omega (arith, f .inside-or-end); before = f .before; here = λ l. f .here (ltb-true r n e) }
 found-step p n r f false e true g =
-    record { within = omega arith; before = λ i l. f .before i (omega (arith, ltb-false r n e, l)); here = λ l. g }
+    record { inside-or-end = omega arith; before = λ i l. f .before i (omega (arith, ltb-false r n e, l)); here = λ l. g }
 found-step p n r f false e false g =
     record {
-      within = le-refl (suc n);
+      inside-or-end = le-refl (suc n);
       before = below (λ k. p k ≡ false) n (λ i l. f .before i (omega (arith, ltb-false r n e, l))) g;
       here = λ l. absurd (omega (arith, l));
     }
 
 pub least-found : (p : ℕ → Bool) (n : ℕ) → Found p n (least p n)
 unfolding least
-least-found p zero = record { within = zero-le; before = λ i l. absurd (not-suc-le-zero l); here = λ l. absurd (not-suc-le-zero l) }
+least-found p zero = record { inside-or-end = zero-le; before = λ i l. absurd (not-suc-le-zero l); here = λ l. absurd (not-suc-le-zero l) }
 least-found p (suc n) = found-step p n (least p n) (least-found p n) (ltb (least p n) n) refl (p n) refl
 
 pub not-both : {b : Bool} → b ≡ true → b ≡ false → ⊥
@@ -44,8 +44,8 @@ pub found-one : (p : ℕ → Bool) (n r s : ℕ) → Found p n r → Found p n s
 found-one p n r s f g = go (ltb r s) refl (ltb s r) refl
   where
     go : (a : Bool) → ltb r s ≡ a → (b : Bool) → ltb s r ≡ b → r ≡ s
-    go true e b h = absurd (not-both (f .here (omega (arith, ltb-true r s e, g .within))) (g .before r (ltb-true r s e)))
-    go false e true h = absurd (not-both (g .here (omega (arith, ltb-true s r h, f .within))) (f .before s (ltb-true s r h)))
+    go true e b h = absurd (not-both (f .here (omega (arith, ltb-true r s e, g .inside-or-end))) (g .before r (ltb-true r s e)))
+    go false e true h = absurd (not-both (g .here (omega (arith, ltb-true s r h, f .inside-or-end))) (f .before s (ltb-true s r h)))
     go false e false h = omega (arith, ltb-false r s e, ltb-false s r h)
 
 -- a code's search is `least`
@@ -53,16 +53,16 @@ pub least-is : (p : ℕ → Bool) (n r : ℕ) → Found p n r → r ≡ least p 
 least-is p n r f = found-one p n r (least p n) f (least-found p n)
 
 pub least-here : (p : ℕ → Bool) (n r : ℕ) → r < n → ((i : ℕ) → i < r → p i ≡ false) → p r ≡ true → r ≡ least p n
-least-here p n r l h e = least-is p n r (record { within = omega (arith, l); before = h; here = λ k. e })
+least-here p n r l h e = least-is p n r (record { inside-or-end = omega (arith, l); before = h; here = λ k. e })
 
 pub least-none : (p : ℕ → Bool) (n : ℕ) → ((i : ℕ) → i < n → p i ≡ false) → n ≡ least p n
-least-none p n h = least-is p n n (record { within = le-refl n; before = h; here = λ l. absurd (omega (arith, l)) })
+least-none p n h = least-is p n n (record { inside-or-end = le-refl n; before = h; here = λ l. absurd (omega (arith, l)) })
 
 pub least-same : (p q : ℕ → Bool) (n : ℕ) → ((i : ℕ) → i < n → p i ≡ q i) → least p n ≡ least q n
 least-same p q n h =
     let f = least-found p n in
     least-is q n (least p n)
-    (record { within = f .within; before = λ i l. sym (h i (omega (arith, l, f .within))) ∙ f .before i l; here = λ l. sym (h (least p n) l) ∙ f .here l })
+    (record { inside-or-end = f .inside-or-end; before = λ i l. sym (h i (omega (arith, l, f .inside-or-end))) ∙ f .before i l; here = λ l. sym (h (least p n) l) ∙ f .here l })
 
 pub some-of : (p : ℕ → Bool) (n i : ℕ) → i < n → p i ≡ true → some p n ≡ true
 some-of p n i l h = go (ltb (least p n) n) refl

@@ -8,7 +8,7 @@ use native.Mathlib.Nat.{add-suc, add-zero, eq-or-lt-of-le, le-of-suc-le-suc}
 use native.Mathlib.Numerals.{add-one}
 use native.Mathlib.Omega.{arith}
 use lib.ListN.{length, take, drop, set, getD, length-append, length-set, List·getD-append}
-use lib.Seq.{take-suc-set, take-all, take-at, drop-at, drop-drop, length-take-le, getD-at}
+use lib.Seq.{take-suc-set, take-all, take-at, drop-at, drop-drop, length-take-le, getD-at, ext-getD}
 use Rattle.lists.specs.Tab.{tab}
 
 -- nothing stored yet
@@ -70,6 +70,12 @@ getD-tab f (suc n) k l =
     (λ e. getD-at (tab f n) (f n) [] 0 k (length-tab f n ∙ sym e) ∙ ap f (sym e))
     (λ lt. List·getD-append (tab f n) (f n ∷ []) 0 k (rw length-tab lt) ∙ getD-tab f n k lt)
     (eq-or-lt-of-le (le-of-suc-le-suc l))
+
+-- a list is the table of its entries
+pub tab-entries : (xs : List ℕ) → xs ≡ tab (λ (k : ℕ). getD xs k 0) (length xs)
+tab-entries xs =
+    let f : ℕ → ℕ = λ (k : ℕ). getD xs k 0 in
+    ext-getD 0 xs (tab f (length xs)) (sym (length-tab f (length xs))) (λ i h. sym (getD-tab f (length xs) i h))
 
 -- one value stored twice, at 2 x and 2 x + 1
 pub tab-pair : (f : ℕ → ℕ) (l : List ℕ) (x v : ℕ) → x * 2 + 1 < length l → take (x * 2) l ≡ tab (λ (k : ℕ). f (k / 2)) (x * 2) → v ≡ f x

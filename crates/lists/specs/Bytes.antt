@@ -1,6 +1,6 @@
--- Bytes.
-use mathlib.Core.List.{List}
+-- A sequence of bytes.
 use Prim.Native.Nat.{ℕ, _<_}
+use mathlib.Core.List.{List}
 use lib.ListN.{getD}
 
 -- every element is below 256

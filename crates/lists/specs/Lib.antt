@@ -1,4 +1,5 @@
 pub mod Tab
+pub mod Rows
 pub mod Search
 pub mod Placed
 pub mod Bytes

@@ -21,6 +21,11 @@ unfoldable pub all : (ℕ → Bool) → ℕ → Bool
 all p zero = true
 all p (suc n) = cond (p n) (all p n) false
 
+-- how many i below n pass p
+unfoldable pub count : (ℕ → Bool) → ℕ → ℕ
+count p zero = zero
+count p (suc n) = cond (p n) (suc (count p n)) (count p n)
+
 -- how many j below n have no i below j with r i j
 unfoldable pub firsts : (ℕ → ℕ → Bool) → ℕ → ℕ
 firsts r zero = zero

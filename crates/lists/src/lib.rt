@@ -1,10 +1,9 @@
-// Lists that several crates speak of, with their laws, a part put into a buffer, and a byte as a wider number.
+// Lists that several crates speak of, with their laws; bytes put into a buffer, and a byte as a wider number.
+mod placing;
+
 ghost use mathlib.Core.Path.{_≡_};
 ghost use Prim.Native.Nat.{_<_};
-
-mod putting;
-
-pub use putting::put;
+pub use placing::put;
 
 // A byte as an index. The bound goes into the contract, since a cast's own is lost in callers that hold a whole state.
 pub fn usize_of(x: u8) -> usize

@@ -74,7 +74,7 @@ module _ (pic : List ℕ) where
       → Source (cond b ds (ds ++ (c ∷ []))) c r
   source-step ds c r f true e = record { there = ltb-true _ _ e; turns = f .here (ltb-true _ _ e) }
   source-step ds c r f false e =
-      let same : r ≡ length ds = omega (arith, ltb-false r (length ds) e, f .within) in
+      let same : r ≡ length ds = omega (arith, ltb-false r (length ds) e, f .inside-or-end) in
       record {
         there = omega (arith, length-append ds (c ∷ []));
         turns = rw (same, getD-append-seam ds c [] 0) (can-self pic c);
@@ -135,4 +135,4 @@ module _ (pic : List ℕ) where
   tile-of-def zero n l = absurd (not-suc-le-zero l)
   tile-of-def (suc c) n l =
       tile-step (defCells pic c) c (ltb (tileOf pic c) (length (defCells pic c))) refl
-      (least-found (λ n. canTurn pic (getD (defCells pic c) n 0) c) (length (defCells pic c)) .within) (tile-of-def c) n l
+      (least-found (λ n. canTurn pic (getD (defCells pic c) n 0) c) (length (defCells pic c)) .inside-or-end) (tile-of-def c) n l

@@ -1,1 +1,1 @@
-mod Stages
+mod Groups

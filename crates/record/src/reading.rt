@@ -4,9 +4,11 @@ ghost use mathlib.Core.Bool.{_&&_};
 ghost use Prim.Native.Nat.{_<_};
 ghost use lib.ListN.{length};
 ghost use Rattle.state.specs.Lawful.{allColours};
-ghost use Rattle.record_layout.specs.Layout.{layout};
-ghost use Rattle.record_layout.specs.Record.{recordLength, version, counted, versioned, sound, stateIn, notRecord, readRecord};
+ghost use Rattle.record_layout.specs.Version.{current};
+ghost use Rattle.record_layout.specs.Places.{versionPlace};
+ghost use Rattle.record_layout.specs.Record.{recordLength, counted, versioned, sound, accepted, stateIn, notRecord, readRecord};
 use lists::usize_of;
+use record_parts::places;
 use record_parts::state_at;
 use reply::Reply;
 use state::Answer;
@@ -14,20 +16,20 @@ use state::lawful_registers;
 use state::reset;
 
 fn has_count(b: &[u8]) -> bool
-    ensures { λ r. ⌜ r ≡ counted layout (now (b .entry)) ⌝ }
+    ensures { λ r. ⌜ r ≡ counted current (now (b .entry)) ⌝ }
 {
     if b.len() < 2 {
         return false;
     }
-    let following = usize_of(b[0]) * 256 + usize_of(b[1]);
-    (b.len() == 2 + following) & (following == 2148)
+    let following = usize_of(b[places::COUNT]) * 256 + usize_of(b[places::COUNT + 1]);
+    (b.len() == 2 + following) & (following == places::FOLLOWING)
 }
 
 fn has_version(b: &[u8]) -> bool
-    requires { ⌜ 2 < length (now b) ⌝ }
-    ensures { λ r. ⌜ r ≡ versioned version (now (b .entry)) ⌝ }
+    requires { ⌜ versionPlace < length (now b) ⌝ }
+    ensures { λ r. ⌜ r ≡ versioned current (now (b .entry)) ⌝ }
 {
-    b[2] == 1
+    b[places::VERSION] == 1
 }
 
 fn has_palettes(b: &[u8]) -> bool
@@ -35,10 +37,10 @@ fn has_palettes(b: &[u8]) -> bool
     ensures { λ r. ⌜ r ≡ (allColours (stateIn (now (b .entry)) .ulafirst) && allColours (stateIn (now (b .entry)) .ulasecond)
         && allColours (stateIn (now (b .entry)) .tilefirst) && allColours (stateIn (now (b .entry)) .tilesecond)) ⌝ }
 {
-    let first = record_parts::is_palette(b, 102);
-    let second = record_parts::is_palette(b, 614);
-    let third = record_parts::is_palette(b, 1126);
-    let fourth = record_parts::is_palette(b, 1638);
+    let first = record_parts::is_palette(b, places::ULA_FIRST);
+    let second = record_parts::is_palette(b, places::ULA_SECOND);
+    let third = record_parts::is_palette(b, places::TILE_FIRST);
+    let fourth = record_parts::is_palette(b, places::TILE_SECOND);
     first & second & third & fourth
 }
 
@@ -46,10 +48,10 @@ fn has_palettes(b: &[u8]) -> bool
 // as truth values.
 fn has_bounds(b: &[u8]) -> bool
     requires { ⌜ length (now b) ≡ recordLength ⌝ }
-    ensures { λ r. ⌜ r ≡ sound layout (now (b .entry)) ⌝ }
+    ensures { λ r. ⌜ r ≡ sound current (now (b .entry)) ⌝ }
 {
-    let held = b[31] <= 1;
-    let plus = b[36] <= 1;
+    let held = b[places::HELD] <= 1;
+    let plus = b[places::PLUS_ON] <= 1;
     let u = record_parts::ula_at(b);
     let p = record_parts::palette_at(b);
     let t = record_parts::tiles_at(b);
@@ -72,7 +74,7 @@ fn refusal() -> Answer
 
 // The three stages: each asks for what the one before it has shown.
 fn is_record(b: &[u8]) -> bool
-    ensures { λ r. ⌜ r ≡ (counted layout (now (b .entry)) && (versioned version (now (b .entry)) && sound layout (now (b .entry)))) ⌝ }
+    ensures { λ r. ⌜ r ≡ accepted current (now (b .entry)) ⌝ }
 {
     if has_count(b) {
         has_version(b) & has_bounds(b)

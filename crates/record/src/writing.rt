@@ -1,8 +1,8 @@
 // Record writing.
 ghost use mathlib.Core.Path.{_≡_};
 ghost use Rattle.record_layout.specs.Record.{writeReply, writtenIn};
-use record_parts::put_registers;
-use record_parts::put_tables;
+use record_parts::places;
+use record_parts::put_record;
 use reply::Reply;
 use state::State;
 use state::lawful;
@@ -11,12 +11,11 @@ use state::lawful;
 pub fn write_record(state: State, target: &mut [u8]) -> Reply
     ensures { λ r. ⌜ (r ≡ writeReply (now (target .entry)) state) × (now (target .exit) ≡ writtenIn (now (target .entry)) state) ⌝ }
 {
-    if target.len() != 2150 {
+    if target.len() != places::RECORD_LENGTH {
         return Reply::BufferLength;
     }
     if lawful(state) {
-        put_registers(state, target);
-        put_tables(state, target);
+        put_record(state, target);
         Reply::Done
     } else {
         Reply::NotLawful

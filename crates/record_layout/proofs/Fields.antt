@@ -8,19 +8,19 @@ use native.Mathlib.Numerals.{add-one}
 use native.Mathlib.Omega.{arith}
 use lib.ListN.{length, take, drop, getD, length-append}
 use lib.Seq.{getD-append-add, drop-cons, drop-drop, take-add, ext-getD}
+use Rattle.lists.specs.Bytes.{Bytes}
 use Rattle.lists.specs.Tab.{tab}
 use Rattle.lists.proofs.Tab.{length-tab, getD-tab}
-use Rattle.record_layout.specs.Fields.{Width, byte, pair, widthOf, fieldBytes, fieldAt, rowBytes, rowAt}
-use Rattle.record_layout.specs.Bounds.{Bytes}
+use Rattle.record_layout.specs.Fields.{Width, byte, pair, fieldSize, fieldBytes, fieldAt, rowBytes, rowAt}
 
 pub seam : (pre ys : List ℕ) (at k : ℕ) → length pre ≡ at → getD (pre ++ ys) (at + k) 0 ≡ getD ys k 0
 seam pre ys at k e = rw (sym e) (getD-append-add pre ys k 0)
 
-pub field-length : (w : Width) (x : ℕ) → length (fieldBytes w x) ≡ widthOf w
+pub field-length : (w : Width) (x : ℕ) → length (fieldBytes w x) ≡ fieldSize w
 field-length byte x = refl
 field-length pair x = refl
 
-pub row-length : (w : Width) (xs : List ℕ) → length (rowBytes w xs) ≡ widthOf w * length xs
+pub row-length : (w : Width) (xs : List ℕ) → length (rowBytes w xs) ≡ fieldSize w * length xs
 row-length byte [] = refl
 row-length pair [] = refl
 row-length byte (x ∷ xs) = let e = row-length byte xs in omega arith
@@ -41,26 +41,26 @@ field-back pair x pre post at e =
     omega (arith, high, low)
 
 fields-back : (w : Width) (xs pre post : List ℕ) (at i : ℕ) → length pre ≡ at → i < length xs
-    → fieldAt w (pre ++ (rowBytes w xs ++ post)) (at + widthOf w * i) ≡ getD xs i 0
+    → fieldAt w (pre ++ (rowBytes w xs ++ post)) (at + fieldSize w * i) ≡ getD xs i 0
 fields-back w [] pre post at i e h = absurd (omega arith)
 fields-back w (x ∷ xs) pre post at zero e h =
     rw (mul-zero, add-zero, append-assoc (fieldBytes w x)) (field-back w x pre (rowBytes w xs ++ post) at e)
 fields-back w (x ∷ xs) pre post at (suc i) e h =
-    let l : length (pre ++ fieldBytes w x) ≡ at + widthOf w = simp (length-append, field-length) (omega arith) in
-    let p : at + widthOf w * suc i ≡ at + widthOf w + widthOf w * i = omega (arith, mul-suc (widthOf w) i) in
+    let l : length (pre ++ fieldBytes w x) ≡ at + fieldSize w = simp (length-append, field-length) (omega arith) in
+    let p : at + fieldSize w * suc i ≡ at + fieldSize w + fieldSize w * i = omega (arith, mul-suc (fieldSize w) i) in
     rw (p, append-assoc (fieldBytes w x), ← append-assoc pre)
-    (fields-back w xs (pre ++ fieldBytes w x) post (at + widthOf w) i l (omega arith))
+    (fields-back w xs (pre ++ fieldBytes w x) post (at + fieldSize w) i l (omega arith))
 
 -- numbers that are written read back
 pub row-back : (w : Width) (xs pre post : List ℕ) (at n : ℕ) → length pre ≡ at → length xs ≡ n → rowAt w n (pre ++ (rowBytes w xs ++ post)) at ≡ xs
 row-back w xs pre post at n e l =
-    let f : ℕ → ℕ = λ i. fieldAt w (pre ++ (rowBytes w xs ++ post)) (at + widthOf w * i) in
+    let f : ℕ → ℕ = λ i. fieldAt w (pre ++ (rowBytes w xs ++ post)) (at + fieldSize w * i) in
     let h : length (tab f n) ≡ length xs = length-tab f n ∙ sym l in
     ext-getD 0 (tab f n) xs h
     (λ i k. let m : i < n = omega (arith, k, length-tab f n) in getD-tab f n i m ∙ fields-back w xs pre post at i e (omega (arith, m)))
 
 -- a field that is read writes back
-field-forth : (w : Width) (b : List ℕ) (k : ℕ) → Bytes b → k + widthOf w ≤ length b → fieldBytes w (fieldAt w b k) ≡ take (widthOf w) (drop k b)
+field-forth : (w : Width) (b : List ℕ) (k : ℕ) → Bytes b → k + fieldSize w ≤ length b → fieldBytes w (fieldAt w b k) ≡ take (fieldSize w) (drop k b)
 field-forth byte b k z h = let l : k < length b = omega arith in rw (drop-cons b k 0 l)
 field-forth pair b k z h =
     let l : k < length b = omega arith in
@@ -75,13 +75,13 @@ row-append w [] ys = refl
 row-append w (x ∷ xs) ys = rw (row-append w xs ys, append-assoc)
 
 -- bytes that are read write back
-pub row-forth : (w : Width) (n : ℕ) (b : List ℕ) (at : ℕ) → Bytes b → at + widthOf w * n ≤ length b
-    → rowBytes w (rowAt w n b at) ≡ take (widthOf w * n) (drop at b)
+pub row-forth : (w : Width) (n : ℕ) (b : List ℕ) (at : ℕ) → Bytes b → at + fieldSize w * n ≤ length b
+    → rowBytes w (rowAt w n b at) ≡ take (fieldSize w * n) (drop at b)
 unfolding tab
 row-forth w zero b at z h = rw mul-zero
 row-forth w (suc n) b at z h =
-    let e : widthOf w * suc n ≡ widthOf w * n + widthOf w = mul-suc (widthOf w) n in
-    let k : at + widthOf w * n + widthOf w ≤ length b = omega arith in
-    let one : rowBytes w (fieldAt w b (at + widthOf w * n) ∷ []) ≡ take (widthOf w) (drop (at + widthOf w * n) b) =
-    append-nil (fieldBytes w (fieldAt w b (at + widthOf w * n))) ∙ field-forth w b (at + widthOf w * n) z k in
+    let e : fieldSize w * suc n ≡ fieldSize w * n + fieldSize w = mul-suc (fieldSize w) n in
+    let k : at + fieldSize w * n + fieldSize w ≤ length b = omega arith in
+    let one : rowBytes w (fieldAt w b (at + fieldSize w * n) ∷ []) ≡ take (fieldSize w) (drop (at + fieldSize w * n) b) =
+    append-nil (fieldBytes w (fieldAt w b (at + fieldSize w * n))) ∙ field-forth w b (at + fieldSize w * n) z k in
     rw (e, row-append, row-forth w n b at z (omega arith), one, take-add, drop-drop)

@@ -2,4 +2,8 @@ pub mod Fields
 pub mod Parts
 pub mod Whole
 pub mod Bounds
+pub mod Stages
+pub mod Types
+pub mod RoundTrip
+pub mod Arguments
 pub mod Claims

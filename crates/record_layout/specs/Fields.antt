@@ -9,9 +9,9 @@ use Rattle.lists.specs.Tab.{tab}
 pub data Width : Type 0 where
   byte pair : Width
 
-abbrev pub widthOf : Width → ℕ
-widthOf byte = 1
-widthOf pair = 2
+abbrev pub fieldSize : Width → ℕ
+fieldSize byte = 1
+fieldSize pair = 2
 
 -- the bytes of a field's number
 abbrev pub fieldBytes : Width → ℕ → List ℕ
@@ -30,7 +30,7 @@ rowBytes w (x ∷ xs) = fieldBytes w x ++ rowBytes w xs
 
 -- the n numbers in a row from a place on
 abbrev pub rowAt : Width → ℕ → List ℕ → ℕ → List ℕ
-rowAt w n b at = tab (λ (i : ℕ). fieldAt w b (at + widthOf w * i)) n
+rowAt w n b at = tab (λ (i : ℕ). fieldAt w b (at + fieldSize w * i)) n
 
 -- a flag is 0 or 1
 abbrev pub flagByte : Bool → ℕ

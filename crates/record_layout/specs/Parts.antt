@@ -7,7 +7,7 @@ use lib.ListN.{getD}
 use lib.Dec.{eqb}
 use Rattle.lists.specs.Search.{some}
 use Rattle.state.specs.declared.State.{State}
-use Rattle.record_layout.specs.Fields.{Width, widthOf, fieldAt, rowBytes, rowAt}
+use Rattle.record_layout.specs.Fields.{Width, fieldSize, fieldAt, rowBytes, rowAt}
 
 -- a part is one byte, with its bound, which may look at the byte before it, and what it holds of a state; or so many
 -- fields of a width in a row, with the bound of each, and what they hold of a state
@@ -17,18 +17,23 @@ pub data Part : Type 0 where
 
 -- how many bytes a part has
 abbrev pub size : Part → ℕ
-size (one bound held) = 1
-size (row w n bound held) = widthOf w * n
+size (one bound field) = 1
+size (row w n bound field) = fieldSize w * n
 
 -- how many bytes the parts have
 abbrev pub sizes : List Part → ℕ
 sizes [] = 0
 sizes (p ∷ ps) = size p + sizes ps
 
+-- the places of the parts that stand from a place on
+abbrev pub places : List Part → ℕ → List ℕ
+places [] at = []
+places (p ∷ ps) at = at ∷ places ps (at + size p)
+
 -- the bytes of a state in a part
 abbrev pub partBytes : Part → State → List ℕ
-partBytes (one bound held) s = held s ∷ []
-partBytes (row w n bound held) s = rowBytes w (held s)
+partBytes (one bound field) s = field s ∷ []
+partBytes (row w n bound field) s = rowBytes w (field s)
 
 -- the bytes of a state in the parts, one after the other
 abbrev pub bytesOf : List Part → State → List ℕ
@@ -38,19 +43,19 @@ bytesOf (p ∷ ps) s = partBytes p s ++ bytesOf ps s
 -- a state as a function of what the parts hold
 abbrev pub FromParts : List Part → Type 0
 FromParts [] = State
-FromParts (one bound held ∷ ps) = ℕ → FromParts ps
-FromParts (row w n bound held ∷ ps) = List ℕ → FromParts ps
+FromParts (one bound field ∷ ps) = ℕ → FromParts ps
+FromParts (row w n bound field ∷ ps) = List ℕ → FromParts ps
 
 -- the state that the parts hold where they stand in the bytes b from a place on
 abbrev pub stateAt : (ps : List Part) → FromParts ps → List ℕ → ℕ → State
 stateAt [] f b at = f
-stateAt (one bound held ∷ ps) f b at = stateAt ps (f (getD b at 0)) b (at + 1)
-stateAt (row w n bound held ∷ ps) f b at = stateAt ps (f (rowAt w n b at)) b (at + widthOf w * n)
+stateAt (one bound field ∷ ps) f b at = stateAt ps (f (getD b at 0)) b (at + 1)
+stateAt (row w n bound field ∷ ps) f b at = stateAt ps (f (rowAt w n b at)) b (at + fieldSize w * n)
 
 -- a field of the part, which stands at a place of the bytes b, starts at place k and is out of its bound
 abbrev pub badPart : Part → List ℕ → ℕ → ℕ → Bool
-badPart (one bound held) b at k = eqb k at && not (bound (getD b (at - 1) 0) (getD b at 0))
-badPart (row w n bound held) b at k = some (λ (i : ℕ). eqb k (at + widthOf w * i) && not (bound (fieldAt w b k))) n
+badPart (one bound field) b at k = eqb k at && not (bound (getD b (at - 1) 0) (getD b at 0))
+badPart (row w n bound field) b at k = some (λ (i : ℕ). eqb k (at + fieldSize w * i) && not (bound (fieldAt w b k))) n
 
 -- a field of the parts, which stand in the bytes b from a place on, starts at place k and is out of its bound
 abbrev pub bad : List Part → List ℕ → ℕ → ℕ → Bool

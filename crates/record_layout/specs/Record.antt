@@ -13,20 +13,18 @@ use Rattle.state.specs.Answer.{done, refused}
 use Rattle.state.specs.Lawful.{lawfulState}
 use Rattle.state.specs.Reset.{resetState}
 use Rattle.record_layout.specs.Fields.{pair, fieldBytes, fieldAt}
-use Rattle.record_layout.specs.Parts.{Part, sizes, bytesOf, stateAt, bad}
+use Rattle.record_layout.specs.Parts.{sizes, bytesOf, stateAt, bad}
+use Rattle.record_layout.specs.Version.{Version, versionNumber, current}
 use Rattle.record_layout.specs.Layout.{layout, fromLayout}
+use Rattle.record_layout.specs.Places.{countPlace, versionPlace, partsPlace}
 
 -- the number of bytes following: the version, and the parts
-abbrev pub following : List Part → ℕ
-following ps = 1 + sizes ps
+abbrev pub following : Version → ℕ
+following v = 1 + sizes (layout v)
 
--- the record of a version and its parts
-abbrev pub recordIn : ℕ → List Part → State → List ℕ
-recordIn version ps s = fieldBytes pair (following ps) ++ (version ∷ bytesOf ps s)
-
--- the version that is written and read
-abbrev pub version : ℕ
-version = 1
+-- the record of a state in a version
+abbrev pub recordIn : Version → State → List ℕ
+recordIn v s = fieldBytes pair (following v) ++ (versionNumber v ∷ bytesOf (layout v) s)
 
 -- "2,150 bytes in all": the length of a lent record
 abbrev pub recordLength : ℕ
@@ -34,38 +32,49 @@ recordLength = 2150
 
 -- the record of a state
 unfoldable pub recordOf : State → List ℕ
-recordOf s = recordIn version layout s
+recordOf s = recordIn current s
 
--- the stated number is there, is the number of bytes following, and is that of the parts
-unfoldable pub counted : List Part → List ℕ → Bool
-counted ps b = eqb (length b) (2 + fieldAt pair b 0) && eqb (fieldAt pair b 0) (following ps)
+-- the stated number is there, is the number of bytes following, and is that of the version
+unfoldable pub counted : Version → List ℕ → Bool
+counted v b = eqb (length b) (2 + fieldAt pair b countPlace) && eqb (fieldAt pair b countPlace) (following v)
 
--- the version is v
-abbrev pub versioned : ℕ → List ℕ → Bool
-versioned v b = eqb (getD b 2 0) v
+-- the stated version is v
+abbrev pub versioned : Version → List ℕ → Bool
+versioned v b = eqb (getD b versionPlace 0) (versionNumber v)
 
 -- the place of the first bad field, counted from the front, or the length where none is bad
-unfoldable pub firstBad : List Part → List ℕ → ℕ
-firstBad ps b = least (bad ps b 3) (length b)
+unfoldable pub firstBad : Version → List ℕ → ℕ
+firstBad v b = least (bad (layout v) b partsPlace) (length b)
 
 -- every field keeps its bound
-abbrev pub sound : List Part → List ℕ → Bool
-sound ps b = eqb (firstBad ps b) (length b)
+abbrev pub sound : Version → List ℕ → Bool
+sound v b = eqb (firstBad v b) (length b)
+
+-- the state in bytes, read as a record of a version
+unfoldable pub stateAs : Version → List ℕ → State
+stateAs v b = stateAt (layout v) (fromLayout v) b partsPlace
 
 -- the state in a record
-unfoldable pub stateIn : List ℕ → State
-stateIn b = stateAt layout fromLayout b 3
+abbrev pub stateIn : List ℕ → State
+stateIn b = stateAs current b
 
 -- the refusal of lent bytes as a record: 13, and the reset state
 abbrev pub notRecord : Answer
 notRecord = refused NotRecord resetState
 
+-- bytes pass the three stages of reading
+abbrev pub accepted : Version → List ℕ → Bool
+accepted v b = counted v b && (versioned v b && sound v b)
+
 -- record reading: the number, the version, the fields; in the base each fault is 13
-abbrev pub readFields : List ℕ → Answer
-readFields b = cond (sound layout b) (done (stateIn b)) notRecord
+abbrev pub readFields : Version → List ℕ → Answer
+readFields v b = cond (sound v b) (done (stateAs v b)) notRecord
+
+abbrev pub readAs : Version → List ℕ → Answer
+readAs v b = cond (counted v b) (cond (versioned v b) (readFields v b) notRecord) notRecord
 
 unfoldable pub readRecord : List ℕ → Answer
-readRecord b = cond (counted layout b) (cond (versioned version b) (readFields b) notRecord) notRecord
+readRecord b = readAs current b
 
 -- record writing: 3, 4
 abbrev pub writeReply : List ℕ → State → Reply

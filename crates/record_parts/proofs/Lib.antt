@@ -1,3 +1,3 @@
-pub mod Pairs
-pub mod Runs
-pub mod Made
+mod Runs
+mod LowFirst
+mod Made

@@ -1,5 +1,6 @@
 // The parts of a stored record: a state's bytes put into their places, and the state taken out of them. Every
 // call here asks for bytes that reach as far as the part does: `record` judges their number first.
+pub mod places;
 mod reading;
 mod writing;
 
@@ -13,5 +14,4 @@ pub use reading::state_at;
 pub use reading::tiles_at;
 pub use reading::turns_at;
 pub use reading::ula_at;
-pub use writing::put_registers;
-pub use writing::put_tables;
+pub use writing::put_record;

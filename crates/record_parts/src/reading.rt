@@ -4,8 +4,10 @@ ghost use Prim.Native.Nat.{_+_, _≤_};
 ghost use lib.ListN.{length};
 ghost use Rattle.state.specs.Lawful.{allColours};
 ghost use Rattle.record_layout.specs.Fields.{byte, pair, rowAt};
+ghost use Rattle.record_layout.specs.Places.{ulaFirstPlace};
 ghost use Rattle.record_layout.specs.Record.{recordLength, stateIn};
-ghost use Rattle.record_parts.specs.Bounds.{Pairs};
+ghost use Rattle.record_parts.specs.LowFirst.{AllLowFirst};
+use crate::places;
 use lists::u16_of;
 use state::Palette;
 use state::Ports;
@@ -17,7 +19,7 @@ use state::Ula;
 // The 256 pairs of bytes from a place on as numbers, the first byte low: so a pair is read as it lies in memory, many at once.
 fn pairs_at(b: &[u8], at: usize) -> [u16; 256]
     requires { ⌜ at + 512 ≤ length (now b) ⌝ }
-    ensures { λ r. ⌜ Pairs (now (b .entry)) at r 256 ⌝ }
+    ensures { λ r. ⌜ AllLowFirst (now (b .entry)) at r 256 ⌝ }
 {
     let mut pairs = [0u16; 256];
     let mut i = 0;
@@ -62,13 +64,13 @@ pub fn is_palette(b: &[u8], at: usize) -> bool
 }
 
 pub fn plus_at(b: &[u8]) -> [u8; 64]
-    requires { ⌜ 102 ≤ length (now b) ⌝ }
+    requires { ⌜ ulaFirstPlace ≤ length (now b) ⌝ }
     ensures { λ r. ⌜ r ≡ stateIn (now (b .entry)) .plus ⌝ }
 {
     let mut registers = [0u8; 64];
     let mut i = 0;
     while i < 64 {
-        registers[i] = b[38 + i];
+        registers[i] = b[places::PLUS + i];
         i += 1;
     }
     registers
@@ -82,68 +84,68 @@ pub fn clip_at(b: &[u8], at: usize) -> [u8; 4]
 }
 
 pub fn ula_at(b: &[u8]) -> Ula
-    requires { ⌜ 102 ≤ length (now b) ⌝ }
+    requires { ⌜ ulaFirstPlace ≤ length (now b) ⌝ }
     ensures { λ r. ⌜ r ≡ stateIn (now (b .entry)) .ula ⌝ }
 {
     Ula {
-        transparent: b[3],
-        layers: b[4],
-        peripheral: b[5],
-        fallback: b[9],
-        control: b[11],
-        x: b[19],
-        y: b[20],
+        transparent: b[places::ULA_TRANSPARENT],
+        layers: b[places::LAYERS],
+        peripheral: b[places::PERIPHERAL],
+        fallback: b[places::FALLBACK],
+        control: b[places::ULA_CONTROL],
+        x: b[places::ULA_X],
+        y: b[places::ULA_Y],
     }
 }
 
 pub fn tiles_at(b: &[u8]) -> Tiles
-    requires { ⌜ 102 ≤ length (now b) ⌝ }
+    requires { ⌜ ulaFirstPlace ≤ length (now b) ⌝ }
     ensures { λ r. ⌜ r ≡ stateIn (now (b .entry)) .tiles ⌝ }
 {
     Tiles {
-        transparent: b[10],
-        control: b[12],
-        attribute: b[13],
-        xhigh: b[14],
-        xlow: b[15],
-        y: b[16],
-        map: b[17],
-        definitions: b[18],
+        transparent: b[places::TILE_TRANSPARENT],
+        control: b[places::TILE_CONTROL],
+        attribute: b[places::ATTRIBUTE],
+        xhigh: b[places::TILE_X_HIGH],
+        xlow: b[places::TILE_X_LOW],
+        y: b[places::TILE_Y],
+        map: b[places::MAP],
+        definitions: b[places::DEFINITIONS],
     }
 }
 
 pub fn palette_at(b: &[u8]) -> Palette
-    requires { ⌜ 102 ≤ length (now b) ⌝ }
+    requires { ⌜ ulaFirstPlace ≤ length (now b) ⌝ }
     ensures { λ r. ⌜ r ≡ stateIn (now (b .entry)) .palette ⌝ }
 {
     Palette {
-        control: b[6],
-        index: b[7],
-        mask: b[8],
-        held: b[31] == 1,
-        half: b[32],
+        control: b[places::PALETTE_CONTROL],
+        index: b[places::INDEX],
+        mask: b[places::MASK],
+        held: b[places::HELD] == 1,
+        half: b[places::HALF],
     }
 }
 
 pub fn turns_at(b: &[u8]) -> Turns
-    requires { ⌜ 102 ≤ length (now b) ⌝ }
+    requires { ⌜ ulaFirstPlace ≤ length (now b) ⌝ }
     ensures { λ r. ⌜ r ≡ stateIn (now (b .entry)) .turns ⌝ }
 {
     Turns {
-        ula: b[29],
-        tiles: b[30],
+        ula: b[places::ULA_TURN],
+        tiles: b[places::TILE_TURN],
     }
 }
 
 pub fn ports_at(b: &[u8]) -> Ports
-    requires { ⌜ 102 ≤ length (now b) ⌝ }
+    requires { ⌜ ulaFirstPlace ≤ length (now b) ⌝ }
     ensures { λ r. ⌜ r ≡ stateIn (now (b .entry)) .ports ⌝ }
 {
     Ports {
-        border: b[33],
-        timex: b[34],
-        select: b[35],
-        plus: b[36] == 1,
+        border: b[places::BORDER],
+        timex: b[places::TIMEX],
+        select: b[places::SELECT],
+        plus: b[places::PLUS_ON] == 1,
     }
 }
 
@@ -157,14 +159,14 @@ pub fn state_at(b: &[u8]) -> State
     let palette = palette_at(b);
     let turns = turns_at(b);
     let ports = ports_at(b);
-    let frame = b[37];
-    let ulaclip = clip_at(b, 21);
-    let tileclip = clip_at(b, 25);
+    let frame = b[places::FRAME];
+    let ulaclip = clip_at(b, places::ULA_CLIP);
+    let tileclip = clip_at(b, places::TILE_CLIP);
     let plus = plus_at(b);
-    let ulafirst = colours_at(b, 102);
-    let ulasecond = colours_at(b, 614);
-    let tilefirst = colours_at(b, 1126);
-    let tilesecond = colours_at(b, 1638);
+    let ulafirst = colours_at(b, places::ULA_FIRST);
+    let ulasecond = colours_at(b, places::ULA_SECOND);
+    let tilefirst = colours_at(b, places::TILE_FIRST);
+    let tilesecond = colours_at(b, places::TILE_SECOND);
     State {
         ula,
         tiles,

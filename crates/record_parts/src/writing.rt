@@ -6,20 +6,12 @@ ghost use Rattle.lists.specs.Placed.{placed};
 ghost use Rattle.record_layout.specs.Fields.{pair, rowBytes, flagByte};
 ghost use Rattle.record_layout.specs.Parts.{bytesOf};
 ghost use Rattle.record_layout.specs.Layout.{layout};
-ghost use Rattle.record_layout.specs.Bounds.{Sized};
+ghost use Rattle.record_layout.specs.Version.{current};
+ghost use Rattle.record_layout.specs.Places.{ulaClipPlace, plusPlace};
 ghost use Rattle.record_layout.specs.Record.{recordLength, recordOf};
+use crate::places;
+use lists::put;
 use state::State;
-
-fn put_bytes(target: &mut [u8], at: usize, src: &[u8])
-    requires { ⌜ at + length (now src) ≤ length (now target) ⌝ }
-    ensures { λ _. ⌜ now (target .exit) ≡ placed (now (target .entry)) at (now (src .entry)) ⌝ }
-{
-    let mut i = 0;
-    while i < src.len() {
-        target[at + i] = src[i];
-        i += 1;
-    }
-}
 
 // Two bytes a colour, high first.
 fn put_colours(target: &mut [u8], at: usize, src: &[u16])
@@ -38,7 +30,7 @@ fn put_colours(target: &mut [u8], at: usize, src: &[u16])
 
 // The number of bytes following, the version, and the 18 registers before the clips.
 fn before_clips(s: State) -> [u8; 21]
-    ensures { λ r. ⌜ r ≡ take 21 (recordOf s) ⌝ }
+    ensures { λ r. ⌜ r ≡ take ulaClipPlace (recordOf s) ⌝ }
 {
     [
         8,
@@ -73,7 +65,7 @@ fn flag_byte(flag: bool) -> u8
 
 // The nine parts after the clips.
 fn after_clips(s: State) -> [u8; 9]
-    ensures { λ r. ⌜ r ≡ bytesOf (take 9 (drop 20 layout)) s ⌝ }
+    ensures { λ r. ⌜ r ≡ bytesOf (take 9 (drop 20 (layout current))) s ⌝ }
 {
     let held = flag_byte(s.palette.held);
     let plus = flag_byte(s.ports.plus);
@@ -90,28 +82,36 @@ fn after_clips(s: State) -> [u8; 9]
     ]
 }
 
-// The caller has judged the target's length. The arrays' lengths, which every state has, are asked for so that one
-// proof reads them off the type.
-pub fn put_registers(s: State, target: &mut [u8])
-    requires { ⌜ (length (now target) ≡ recordLength) × Sized s ⌝ }
-    ensures { λ _. ⌜ now (target .exit) ≡ placed (now (target .entry)) 0 (take 38 (recordOf s)) ⌝ }
+// The registers: all before the tables.
+fn put_registers(s: State, target: &mut [u8])
+    requires { ⌜ length (now target) ≡ recordLength ⌝ }
+    ensures { λ _. ⌜ now (target .exit) ≡ placed (now (target .entry)) 0 (take plusPlace (recordOf s)) ⌝ }
 {
     let first = before_clips(s);
     let last = after_clips(s);
-    put_bytes(target, 0, &first);
-    put_bytes(target, 21, &s.ulaclip);
-    put_bytes(target, 25, &s.tileclip);
-    put_bytes(target, 29, &last);
+    put(target, 0, &first);
+    put(target, places::ULA_CLIP, &s.ulaclip);
+    put(target, places::TILE_CLIP, &s.tileclip);
+    put(target, places::ULA_TURN, &last);
 }
 
-// As `put_registers`, from the place where that ends.
-pub fn put_tables(s: State, target: &mut [u8])
-    requires { ⌜ (length (now target) ≡ recordLength) × Sized s ⌝ }
-    ensures { λ _. ⌜ now (target .exit) ≡ placed (now (target .entry)) 38 (drop 38 (recordOf s)) ⌝ }
+// The ULAplus registers and the palettes, from the place where `put_registers` ends.
+fn put_tables(s: State, target: &mut [u8])
+    requires { ⌜ length (now target) ≡ recordLength ⌝ }
+    ensures { λ _. ⌜ now (target .exit) ≡ placed (now (target .entry)) plusPlace (drop plusPlace (recordOf s)) ⌝ }
 {
-    put_bytes(target, 38, &s.plus);
-    put_colours(target, 102, &s.ulafirst);
-    put_colours(target, 614, &s.ulasecond);
-    put_colours(target, 1126, &s.tilefirst);
-    put_colours(target, 1638, &s.tilesecond);
+    put(target, places::PLUS, &s.plus);
+    put_colours(target, places::ULA_FIRST, &s.ulafirst);
+    put_colours(target, places::ULA_SECOND, &s.ulasecond);
+    put_colours(target, places::TILE_FIRST, &s.tilefirst);
+    put_colours(target, places::TILE_SECOND, &s.tilesecond);
+}
+
+// The state's record, lawful or not. The caller has judged the target's length.
+pub fn put_record(s: State, target: &mut [u8])
+    requires { ⌜ length (now target) ≡ recordLength ⌝ }
+    ensures { λ _. ⌜ now (target .exit) ≡ recordOf s ⌝ }
+{
+    put_registers(s, target);
+    put_tables(s, target);
 }

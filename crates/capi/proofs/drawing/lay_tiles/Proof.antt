@@ -1,7 +1,7 @@
 -- As for the ULA.
 use Rattle.capi.proofs.Shown.{tiles-shown, colours-shown}
 use Rattle.line.proofs.Bounded.{bounded}
-use Rattle.record_layout.specs.Record.{stateIn}
+use Rattle.record_layout.specs.Record.{stateAs}
 use borrow.Author.Tests.{leb-true}
 use native.Mathlib.Omega.{arith}
 use borrow.Author.Needs.{needs}
@@ -32,7 +32,7 @@ same-length : tie.Need-same-length
 same-length c = search needs
 
 returns : tie.Need-returns
-unfolding stateIn
+unfolding stateAs
 returns c = let s = c .before .before .before .before .before .before .before .before .before .before .before .before .before .before .before in tiles-shown (s .args .lent .now) (s .args .bank .now) (s .args .line) _ _ _ _ _ (s .args .dots .now) _ (c .before .before .before .before .before .before .before .before .before .before .before .ula-at .ensures) (c .before .before .before .before .before .before .before .before .before .before .tiles-at .ensures) (c .before .before .before .before .before .before .before .before .before .clip-at .ensures) (c .before .before .before .before .before .before .before .before .tile-place .ensures .0) (c .before .before .before .before .before .before .before .colours-at .ensures) (c .before .before .tiles-over .ensures)
 
 pub lay-tiles-spec : {M : Type 1} → statement M

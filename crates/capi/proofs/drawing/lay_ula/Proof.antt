@@ -2,7 +2,7 @@
 use native.Mathlib.Omega.{arith}
 use Rattle.capi.proofs.Shown.{ula-shown}
 use Rattle.line.proofs.Bounded.{bounded}
-use Rattle.record_layout.specs.Record.{stateIn}
+use Rattle.record_layout.specs.Record.{stateAs}
 use Rattle.state.specs.Bounds.{isMask}
 use Rattle.state.specs.declared.Palette.{Palette}
 use mathlib.Core.Path.{refl, ap, _∙_}
@@ -41,7 +41,7 @@ same-length : tie.Need-same-length
 same-length c = search needs
 
 returns : tie.Need-returns
-unfolding stateIn
+unfolding stateAs
 returns c = let s = c .before .before .before .before .before .before .before .before .before .before .before .before .before .before .before .before .before .before .before in ula-shown (s .args .lent .now) _ _ _ _ _ _ _ _ _ _ _ (c .before .before .before .before .before .before .before .before .before .before .before .before .before .before .before .ula-at .ensures) (c .before .before .before .before .before .before .before .before .before .before .before .before .before .before .palette-at .ensures) (c .before .before .before .before .before .before .before .before .before .before .before .before .before .ports-at .ensures) refl (c .before .before .before .before .before .before .before .before .before .before .before .clip-at .ensures) (c .before .before .before .before .before .before .before .before .before .before .plus-at .ensures) (c .before .before .before .before .before .before .before .before .before .ula-place .ensures .0) (c .before .before .before .before .before .before .before .before .colours-at .ensures) (c .before .before .ula-row .ensures)
 
 pub lay-ula-spec : {M : Type 1} → statement M

@@ -1,5 +1,5 @@
 -- No place is bad exactly where the flags are 0 or 1 and the fields of the state keep their bounds.
-use Rattle.record.proofs.Stages.{bounds-kept}
+use Rattle.record.proofs.Groups.{bounds-kept}
 use borrow.Author.Needs.{needs}
 use Rattle.record.proofs.reading.has_bounds.Statement.{statement}
 use Rattle.record.proofs.reading.has_bounds.Tie as tie

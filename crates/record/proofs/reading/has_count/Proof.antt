@@ -4,6 +4,7 @@ use borrow.Author.Tests.{ne-eqb}
 use Prim.Native.Nat.{_+_}
 use lib.ListN.{length}
 use Rattle.record_layout.specs.Fields.{pair, fieldAt}
+use Rattle.record_layout.specs.Places.{countPlace}
 use Rattle.record_layout.specs.Record.{counted}
 use borrow.Author.Needs.{needs}
 use Rattle.record.proofs.reading.has_count.Statement.{statement}
@@ -11,7 +12,7 @@ use Rattle.record.proofs.reading.has_count.Tie as tie
 
 returns : tie.Need-returns
 unfolding counted
-returns c = let b = c .before .before .args .b .now in rw (ne-eqb (length b) (2 + fieldAt pair b 0) (λ e. omega arith))
+returns c = let b = c .before .before .args .b .now in rw (ne-eqb (length b) (2 + fieldAt pair b countPlace) (λ e. omega arith))
 
 shared-slice-read-usize-of : tie.Need-shared-slice-read-usize-of
 shared-slice-read-usize-of c = search needs
@@ -21,6 +22,9 @@ usize-of-requires c κs = search needs
 
 mul-following : tie.Need-mul-following
 mul-following c = search needs
+
+add-usize-of : tie.Need-add-usize-of
+add-usize-of c = search needs
 
 shared-slice-read-usize-of-2 : tie.Need-shared-slice-read-usize-of-2
 shared-slice-read-usize-of-2 c = search needs
@@ -46,6 +50,7 @@ has-count-spec =
     shared-slice-read-usize-of
     usize-of-requires
     mul-following
+    add-usize-of
     shared-slice-read-usize-of-2
     usize-of-requires-2
     add-following

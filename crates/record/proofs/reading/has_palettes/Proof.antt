@@ -1,5 +1,5 @@
 -- The four palettes, at their places in the layout.
-use Rattle.record_layout.specs.Record.{stateIn}
+use Rattle.record_layout.specs.Record.{stateAs}
 use borrow.Author.Needs.{needs}
 use Rattle.record.proofs.reading.has_palettes.Statement.{statement}
 use Rattle.record.proofs.reading.has_palettes.Tie as tie
@@ -17,7 +17,7 @@ is-palette-requires-4 : tie.Need-is-palette-requires-4
 is-palette-requires-4 c κs = search needs
 
 returns : tie.Need-returns
-unfolding stateIn
+unfolding stateAs
 returns c = cc
 
 pub has-palettes-spec : {M : Type 1} → statement M

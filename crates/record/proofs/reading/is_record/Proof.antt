@@ -1,5 +1,6 @@
 -- The stated number gives the length that the later stages ask for.
-use Rattle.record_layout.proofs.Claims.{counted-number}
+use Rattle.record_layout.specs.Version.{current}
+use Rattle.record_layout.proofs.Stages.{counted-number}
 use native.Mathlib.Omega.{arith}
 use mathlib.Core.Path.{sym, _∙_}
 use borrow.Author.Needs.{needs}
@@ -10,10 +11,10 @@ has-count-requires : tie.Need-has-count-requires
 has-count-requires c κs = search needs
 
 has-version-requires : tie.Need-has-version-requires
-has-version-requires c κs = let e = sym (c .before .has-count .ensures) ∙ c .if1 .taken in omega (arith, counted-number (c .before .before .before .args .b .now) e .1)
+has-version-requires c κs = let e = sym (c .before .has-count .ensures) ∙ c .if1 .taken in omega (arith, counted-number current (c .before .before .before .args .b .now) e .1)
 
 has-bounds-requires : tie.Need-has-bounds-requires
-has-bounds-requires c κs = let p = c .before in let e = sym (p .before .has-count .ensures) ∙ p .if1 .taken in counted-number (p .before .before .before .args .b .now) e .1
+has-bounds-requires c κs = let p = c .before in let e = sym (p .before .has-count .ensures) ∙ p .if1 .taken in counted-number current (p .before .before .before .args .b .now) e .1
 
 returns : tie.Need-returns
 returns c = let p = c .before .before in let e = sym (p .before .has-count .ensures) ∙ p .if1 .taken in rw e (cc)

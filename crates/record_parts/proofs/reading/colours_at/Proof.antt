@@ -1,7 +1,7 @@
 -- The first i colours are read; a turn reads one more from its pair.
 use Rattle.lists.proofs.Tab.{tab-none, tab-step, tab-done}
 use Rattle.record_layout.specs.Fields.{pair, rowAt}
-use Rattle.record_parts.proofs.Pairs.{colour-of}
+use Rattle.record_parts.proofs.LowFirst.{colour-of}
 use borrow.Author.Needs.{needs}
 use native.Mathlib.Omega.{arith}
 use mathlib.Core.Path.{_≡_, refl}

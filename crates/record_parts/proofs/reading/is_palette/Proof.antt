@@ -1,7 +1,7 @@
 -- The loop of `is_palette`: what was seen so far and what is left give the test of the whole palette.
 use Rattle.state.specs.Lawful.{allColours}
 use Rattle.record_layout.specs.Fields.{pair, rowAt}
-use Rattle.record_parts.proofs.Pairs.{palette-more, palette-end}
+use Rattle.record_parts.proofs.LowFirst.{palette-more, palette-end}
 use mathlib.Core.Bool.{_&&_}
 use borrow.Author.Needs.{needs}
 use native.Mathlib.Omega.{arith}

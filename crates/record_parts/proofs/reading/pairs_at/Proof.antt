@@ -1,7 +1,7 @@
 -- The first i pairs are read; a turn reads one more from two bytes.
 use borrow.Author.Count.{below-none}
-use Rattle.record_parts.specs.Bounds.{Pairs}
-use Rattle.record_parts.proofs.Pairs.{pairs-more}
+use Rattle.record_parts.specs.LowFirst.{AllLowFirst}
+use Rattle.record_parts.proofs.LowFirst.{pairs-more}
 use borrow.Author.Needs.{needs}
 use native.Mathlib.Omega.{arith}
 use mathlib.Core.Path.{_≡_, refl}
@@ -11,7 +11,7 @@ use Rattle.record_parts.proofs.reading.pairs_at.Statement.{statement}
 use Rattle.record_parts.proofs.reading.pairs_at.Tie as tie
 
 abbrev Inv-loop : tie.InvT-loop
-Inv-loop b at pairs₀ i₀ pairs i = (i ≤ 256) × (length pairs ≡ 256) × (Pairs b at pairs i)
+Inv-loop b at pairs₀ i₀ pairs i = (i ≤ 256) × (length pairs ≡ 256) × (AllLowFirst b at pairs i)
 
 abbrev μ-loop : tie.MeasureT-loop
 μ-loop b at pairs₀ i₀ pairs i = 256 - i

@@ -6,7 +6,7 @@ use Prim.Native.Nat.{ℕ, _+_, _*_, _≤_, _-_}
 use lib.ListN.{length, take, getD, length-set}
 use Rattle.lists.proofs.Tab.{tab-none, tab-step, tab-done}
 use Rattle.record_layout.specs.Fields.{byte, rowAt}
-use Rattle.record_layout.specs.Record.{stateIn}
+use Rattle.record_layout.specs.Record.{stateAs}
 use Rattle.record_parts.proofs.reading.plus_at.Statement.{statement}
 use Rattle.record_parts.proofs.reading.plus_at.Tie as tie
 
@@ -42,7 +42,7 @@ loop-again c =
     (omega arith, simp length-set (h .inv .1), tab-step _ (h .registers) (h .i) _ (omega arith) (h .inv .2) (ap (λ (k : ℕ). getD (a .b .now) k 0) e))
 
 returns : tie.Need-returns Inv-loop μ-loop
-unfolding stateIn
+unfolding stateAs
 returns c =
     let h = c .before .loop in
     let e : h .i ≡ 64 = omega arith in

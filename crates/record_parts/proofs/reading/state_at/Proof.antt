@@ -1,5 +1,5 @@
 -- The groups and the tables that the callees read are those of the layout.
-use Rattle.record_layout.specs.Record.{stateIn}
+use Rattle.record_layout.specs.Record.{stateAs}
 use borrow.Author.Needs.{needs}
 use Rattle.record_parts.proofs.reading.state_at.Statement.{statement}
 use Rattle.record_parts.proofs.reading.state_at.Tie as tie
@@ -44,7 +44,7 @@ colours-at-requires-4 : tie.Need-colours-at-requires-4
 colours-at-requires-4 c κs = search needs
 
 returns : tie.Need-returns
-unfolding stateIn
+unfolding stateAs
 returns c =
     let p = c .before .before .before .before .before .before .before .before in
     rw (

@@ -1,4 +1,5 @@
 -- What the calls place, one after the other, are the first 38 bytes of the record.
+use Rattle.record_layout.proofs.Arguments.{argument-typed}
 use Rattle.record_parts.proofs.Made.{registers-made}
 use borrow.Author.Needs.{needs}
 use Rattle.record_parts.proofs.writing.put_registers.Statement.{statement}
@@ -10,23 +11,23 @@ before-clips-requires c κs = search needs
 after-clips-requires : tie.Need-after-clips-requires
 after-clips-requires c κs = search needs
 
-slice-aggregate-put-bytes : tie.Need-slice-aggregate-put-bytes
-slice-aggregate-put-bytes c = search needs
+slice-aggregate-put : tie.Need-slice-aggregate-put
+slice-aggregate-put c = search needs
 
-put-bytes-requires : tie.Need-put-bytes-requires
-put-bytes-requires c κs = search needs
+put-requires : tie.Need-put-requires
+put-requires c κs = search needs
 
-put-bytes-requires-2 : tie.Need-put-bytes-requires-2
-put-bytes-requires-2 c κs = search needs
+put-requires-2 : tie.Need-put-requires-2
+put-requires-2 c κs = search needs
 
-put-bytes-requires-3 : tie.Need-put-bytes-requires-3
-put-bytes-requires-3 c κs = search needs
+put-requires-3 : tie.Need-put-requires-3
+put-requires-3 c κs = search needs
 
-slice-aggregate-put-bytes-2 : tie.Need-slice-aggregate-put-bytes-2
-slice-aggregate-put-bytes-2 c = search needs
+slice-aggregate-put-2 : tie.Need-slice-aggregate-put-2
+slice-aggregate-put-2 c = search needs
 
-put-bytes-requires-4 : tie.Need-put-bytes-requires-4
-put-bytes-requires-4 c κs = search needs
+put-requires-4 : tie.Need-put-requires-4
+put-requires-4 c κs = search needs
 
 same-length : tie.Need-same-length
 same-length c = search needs
@@ -39,8 +40,8 @@ returns c =
     let p1 = p2 .before .before .before .before .before .before .before in
     let head = p1 .before .before .before in
     let start = head .before .before .before in
-    registers-made (start .args .t1) (start .pre .1) _ _ _ _ _ _ _ (start .pre .0) (head .before .before-clips .ensures) (head .after-clips .ensures)
-    (p1 .put-bytes .ensures) (p2 .put-bytes2 .ensures) (p3 .put-bytes3 .ensures) (p4 .put-bytes4 .ensures)
+    registers-made (start .args .t1) (argument-typed (start .args .t1) (start .good .0)) _ _ _ _ _ _ _ (start .pre) (head .before .before-clips .ensures) (head .after-clips .ensures)
+    (p1 .put .ensures) (p2 .put2 .ensures) (p3 .put3 .ensures) (p4 .put4 .ensures)
 
 pub put-registers-spec : {M : Type 1} → statement M
 put-registers-spec =
@@ -48,11 +49,11 @@ put-registers-spec =
     (tie.spec
     before-clips-requires
     after-clips-requires
-    slice-aggregate-put-bytes
-    put-bytes-requires
-    put-bytes-requires-2
-    put-bytes-requires-3
-    slice-aggregate-put-bytes-2
-    put-bytes-requires-4
+    slice-aggregate-put
+    put-requires
+    put-requires-2
+    put-requires-3
+    slice-aggregate-put-2
+    put-requires-4
     same-length
     returns)

@@ -1,11 +1,12 @@
 -- What the calls place, one after the other, are the bytes of the record from 38 on.
+use Rattle.record_layout.proofs.Arguments.{argument-typed}
 use Rattle.record_parts.proofs.Made.{tables-made}
 use borrow.Author.Needs.{needs}
 use Rattle.record_parts.proofs.writing.put_tables.Statement.{statement}
 use Rattle.record_parts.proofs.writing.put_tables.Tie as tie
 
-put-bytes-requires : tie.Need-put-bytes-requires
-put-bytes-requires c κs = search needs
+put-requires : tie.Need-put-requires
+put-requires c κs = search needs
 
 put-colours-requires : tie.Need-put-colours-requires
 put-colours-requires c κs = search needs
@@ -30,14 +31,14 @@ returns c =
     let p2 = p3 .before .before .before .before .before .before .before in
     let p1 = p2 .before .before .before .before .before .before .before in
     let start = p1 .before .before .before .before .before .before in
-    tables-made (start .args .t1) (start .pre .1) _ _ _ _ _ _ (start .pre .0)
-    (p1 .put-bytes .ensures) (p2 .put-colours .ensures) (p3 .put-colours2 .ensures) (p4 .put-colours3 .ensures) (p5 .put-colours4 .ensures)
+    tables-made (start .args .t1) (argument-typed (start .args .t1) (start .good .0)) _ _ _ _ _ _ (start .pre)
+    (p1 .put .ensures) (p2 .put-colours .ensures) (p3 .put-colours2 .ensures) (p4 .put-colours3 .ensures) (p5 .put-colours4 .ensures)
 
 pub put-tables-spec : {M : Type 1} → statement M
 put-tables-spec =
     tie.close
     (tie.spec
-    put-bytes-requires
+    put-requires
     put-colours-requires
     put-colours-requires-2
     put-colours-requires-3

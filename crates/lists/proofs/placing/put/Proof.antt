@@ -2,14 +2,13 @@
 use borrow.Author.Needs.{needs}
 use native.Mathlib.Omega.{arith}
 use mathlib.Core.Path.{_≡_, refl, ap, _∙_}
-use Prim.Native.Nat.{_+_, _≤_, _<_, _-_}
+use Prim.Native.Nat.{_≤_, _-_}
 use lib.ListN.{length, take, length-set}
 use lib.Seq.{take-all}
 use Rattle.lists.specs.Placed.{placed}
-use Rattle.lists.proofs.Placed.{placed-none, placed-one}
-use Rattle.record_parts.proofs.Runs.{bytes-more, bytes-so-far}
-use Rattle.record_parts.proofs.writing.put_bytes.Statement.{statement}
-use Rattle.record_parts.proofs.writing.put_bytes.Tie as tie
+use Rattle.lists.proofs.Placed.{placed-none, placed-more}
+use Rattle.lists.proofs.placing.put.Statement.{statement}
+use Rattle.lists.proofs.placing.put.Tie as tie
 
 abbrev Inv-loop : tie.InvT-loop
 Inv-loop target₀ at src i₀ target i = (i ≤ length src) × (target ≡ placed target₀ at (take i src)) × (length target ≡ length target₀)
@@ -39,12 +38,7 @@ loop-again : tie.Need-loop-again Inv-loop μ-loop
 loop-again c =
     let a = c .before .before .before .args in
     let h = c .before .before .loop in
-    let more : h .i < length (a .src .now) = omega arith in
-    let e : a .at + h .i ≡ a .at + length (take (h .i) (a .src .now)) = omega (arith, bytes-so-far (a .src .now) (h .i) more) in (
-      omega arith,
-      rw (h .inv .1, bytes-more (a .src .now) (h .i) more) (placed-one (a .target .now) (a .at) (take (h .i) (a .src .now)) _ e _ (omega arith)),
-      simp length-set (h .inv .2),
-    )
+    (omega arith, rw (h .inv .1) (placed-more (a .src .now) (h .i) (omega arith) (a .target .now) (a .at) (omega arith)), simp length-set (h .inv .2))
 
 same-length : tie.Need-same-length Inv-loop μ-loop
 same-length c = search needs
@@ -52,8 +46,8 @@ same-length c = search needs
 returns : tie.Need-returns Inv-loop μ-loop
 returns c = c .before .loop .inv .1 ∙ ap (placed _ _) (take-all _ _ (c .loop-test .left))
 
-pub put-bytes-spec : {M : Type 1} → statement M
-put-bytes-spec =
+pub put-spec : {M : Type 1} → statement M
+put-spec =
     tie.close
     (tie.spec
     Inv-loop

@@ -13,16 +13,16 @@ use Rattle.lists.proofs.Tab.{getD-tab, length-tab}
 use Rattle.state.specs.Lawful.{allColours}
 use Rattle.state.proofs.Colours.{colours-more, colours-end}
 use Rattle.record_layout.specs.Fields.{pair, fieldAt, rowAt}
-use Rattle.record_parts.specs.Bounds.{Pair, Pairs}
+use Rattle.record_parts.specs.LowFirst.{LowFirst, AllLowFirst}
 
 pub pairs-more : (b ps : List ℕ) (at i x y : ℕ) → i < length ps → x ≡ getD b (at + 2 * i) 0 → y ≡ getD b (at + 2 * i + 1) 0 → x < 256 → y < 256
-    → Pairs b at ps i → Pairs b at (set ps i (x + y * 256)) (i + 1)
+    → AllLowFirst b at ps i → AllLowFirst b at (set ps i (x + y * 256)) (i + 1)
 pairs-more b ps at i x y l ex ey hx hy h =
-    below-more (λ (k : ℕ). Pair (getD b (at + 2 * k) 0) (getD b (at + 2 * k + 1) 0) (getD (set ps i (x + y * 256)) k 0)) i
+    below-more (λ (k : ℕ). LowFirst (getD b (at + 2 * k) 0) (getD b (at + 2 * k + 1) 0) (getD (set ps i (x + y * 256)) k 0)) i
     (λ k g. rw (getD-set-other ps i k (x + y * 256) 0 (omega (arith, g))) (h k g))
     (rw (getD-set-same ps i (x + y * 256) 0 l) (record { low = omega (arith, ex); high = omega (arith, ey); small = omega arith }))
 
-pub colour-of : (b : List ℕ) (o v : ℕ) → Pair (getD b o 0) (getD b (o + 1) 0) v → v % 256 * 256 + v / 256 ≡ fieldAt pair b o
+pub colour-of : (b : List ℕ) (o v : ℕ) → LowFirst (getD b o 0) (getD b (o + 1) 0) v → v % 256 * 256 + v / 256 ≡ fieldAt pair b o
 colour-of b o v p = rw (p .low, p .high)
 
 -- a colour is at most 511 exactly where its high byte is at most 1
@@ -32,7 +32,7 @@ high-byte (suc zero) y h = le-leb (1 * 256 + y) 511 (omega arith)
 high-byte (suc (suc x)) y h = lt-leb (suc (suc x) * 256 + y) 511 (omega arith) ∙ sym (lt-leb (suc (suc x)) 1 (omega arith))
 
 -- the test of a palette goes on by one colour
-pub palette-more : (b : List ℕ) (at i v : ℕ) (ok : Bool) → i < 256 → Pair (getD b (at + 2 * i) 0) (getD b (at + 2 * i + 1) 0) v
+pub palette-more : (b : List ℕ) (at i v : ℕ) (ok : Bool) → i < 256 → LowFirst (getD b (at + 2 * i) 0) (getD b (at + 2 * i + 1) 0) v
     → allColours (rowAt pair 256 b at) ≡ (ok && allColours (drop i (rowAt pair 256 b at)))
     → allColours (rowAt pair 256 b at) ≡ ((ok && leb (v % 256) 1) && allColours (drop (i + 1) (rowAt pair 256 b at)))
 palette-more b at i v ok h p e =
