@@ -15,7 +15,7 @@ use Rattle.record_layout.specs.Parts.{places}
 use Rattle.record_layout.specs.Version.{version1, current}
 use Rattle.record_layout.specs.Layout.{layout, isFlag}
 use Rattle.record_layout.specs.Places.{partsPlace, heldPlace, plusOnPlace, namedPlaces}
-use Rattle.record_layout.specs.Record.{recordLength, recordOf, sound, stateIn, notRecord, readRecord, writeReply, writtenIn}
+use Rattle.record_layout.specs.Record.{recordOf, sound, stateIn, notRecord, readRecord, writeReply, writtenIn}
 
 -- a lawful state that is written reads back as the same state
 abbrev pub WrittenReadsBack : Type 0

@@ -89,7 +89,7 @@ fn put_registers(s: State, target: &mut [u8])
 {
     let first = before_clips(s);
     let last = after_clips(s);
-    put(target, 0, &first);
+    put(target, places::COUNT, &first);
     put(target, places::ULA_CLIP, &s.ulaclip);
     put(target, places::TILE_CLIP, &s.tileclip);
     put(target, places::ULA_TURN, &last);
