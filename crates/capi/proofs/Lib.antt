@@ -1,4 +1,1 @@
-mod Shown
-mod Exits
-mod Draws
 mod Counts

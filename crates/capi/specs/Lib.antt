@@ -1,4 +1,2 @@
-pub mod Lent
-pub mod Drawn
+pub mod Lines
 pub mod Packed
-pub mod Bounds

@@ -1,6 +1,5 @@
 // The calls for C, Rust and Python: numbers and slices only, a state lent as its record. Each answers the reply's number.
 mod changes;
-mod drawing;
 mod pictures;
 mod readings;
 

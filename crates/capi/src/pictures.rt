@@ -3,10 +3,9 @@ ghost use mathlib.Core.Path.{_≡_};
 ghost use Rattle.reply.specs.Reply.{replyNumber};
 ghost use Rattle.colour.specs.Screen.{screenAnswer};
 ghost use Rattle.capi.specs.Packed.{LentPacked};
-ghost use Rattle.capi.specs.Drawn.{lentDrawReply, lentDrawn, earlyReply};
-use crate::drawing::draw_held;
-use line::first_of;
-use reply::Reply;
+ghost use lib.ListN.{length};
+ghost use Rattle.lent.specs.Drawn.{lentDrawReply, lentDrawn};
+ghost use Rattle.capi.specs.Lines.{numbered};
 use reply::number;
 use surface::LineNumber;
 
@@ -20,35 +19,20 @@ pub extern "C" fn narephon_screen_value(colour: u32, value: &mut u32) -> u8
     number(r)
 }
 
-// What refuses a drawing before its state is judged: the line, the lengths, the record.
-fn early_reply(line: LineNumber, ula: usize, tile: usize, dots: usize, held: Reply) -> Reply
-    ensures { λ r. ⌜ r ≡ earlyReply line ula tile dots held ⌝ }
-{
-    let lengths = line::lengths_reply(ula, tile, dots);
-    first_of(line::line_reply(line), first_of(lengths, held))
-}
-
+// Line 0 to 255 of the state in a record.
 #[no_mangle]
 pub extern "C" fn narephon_draw(
-    lent: &[u8],
+    bytes: &[u8],
     ula: &[u8],
     tile: &[u8],
     line: u32,
     dots: &mut [u16],
 ) -> u8
-    ensures { λ r. ⌜ (r ≡ replyNumber (lentDrawReply line (now (ula .entry)) (now (tile .entry)) (now (dots .entry)) (now (lent .entry))))
-        × (now (dots .exit) ≡ lentDrawn line (now (ula .entry)) (now (tile .entry)) (now (dots .entry)) (now (lent .entry))) ⌝ }
+    ensures { λ r. ⌜ (r ≡ replyNumber (lentDrawReply (numbered line) (length (now (ula .entry))) (length (now (tile .entry))) (length (now (dots .entry))) (now (bytes .entry))))
+        × (now (dots .exit) ≡ lentDrawn (numbered line) (now (ula .entry)) (now (tile .entry)) (now (dots .entry)) (now (bytes .entry))) ⌝ }
 {
-    let l = LineNumber(line as usize);
-    let held = record::record_reply(lent);
-    let early = early_reply(l, ula.len(), tile.len(), dots.len(), held);
-    let n = number(early);
-    if n == 0 {
-        let q = draw_held(lent, ula, tile, l, dots);
-        number(q)
-    } else {
-        n
-    }
+    let r = lent::draw_record(bytes, ula, tile, LineNumber(line as usize), dots);
+    number(r)
 }
 
 #[no_mangle]

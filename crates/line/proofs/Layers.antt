@@ -8,9 +8,9 @@ use lib.ListN.{getD, set, length}
 use lib.Seq.{getD-set-other}
 use lib.Dec.{eqb}
 use Rattle.lists.specs.Tab.{tab}
-use Rattle.lists.proofs.Tab.{tab-ext, getD-tab}
+use Rattle.lists.proofs.Tab.{tab-ext, tab-entries, getD-tab}
 use Rattle.colour.specs.Bytes.{widened}
-use Rattle.state.specs.Bits.{ulaOn, tileSecondShown}
+use Rattle.state.specs.Bits.{ulaOn}
 use Rattle.state.specs.Lawful.{allColours}
 use Rattle.state.specs.declared.State.{State}
 use Rattle.state.specs.declared.Ula.{Ula}
@@ -18,9 +18,6 @@ use Rattle.state.specs.declared.Tiles.{Tiles}
 use Rattle.surface.specs.Dots.{inside, clipped, topDot}
 use Rattle.surface.specs.declared.lines.LineNumber.{LineNumber}
 use Rattle.ula.specs.Display.{ulaDot}
-use Rattle.ula.specs.Bounds.{shownState}
-use Rattle.ula.proofs.Clips.{entries}
-use Rattle.ula.proofs.Parts.{same-dots}
 use Rattle.tilemap.specs.Index.{widthOf, tileEntry, tileIndex, ulaAbove}
 use Rattle.tilemap.specs.Dots.{TileDot, clear, shows, acrossOf, tileDot}
 use Rattle.tilemap.specs.Shades.{tileRow}
@@ -104,20 +101,19 @@ module _ (t : TileSetup) (w : Window) (transparent : ℕ) (stencil : Bool) (pal 
 
   pub layered-bare : length out ≡ 640 → w .on ≡ false → stencil ≡ false → out ≡ tab laid 640
   layered-bare e o s =
-      entries out ∙ ap (tab (λ (k : ℕ). getD out k 0)) e
+      tab-entries out ∙ ap (tab (λ (k : ℕ). getD out k 0)) e
       ∙ tab-ext _ _ 640 (λ k h.
       bare pal (getD out k 0)
       ∙ ap (λ (b : Bool). composed b pal (getD out k 0) clear) (sym s)
       ∙ ap (composed stencil pal (getD out k 0)) (no-tile o k))
 
 -- what the state says of the tilemap, put in its place
-pub tiles-of : (u : Ula) (v : Tiles) (clip first second bank pal old out : List ℕ) (line : LineNumber) (t : TileSetup) (w : Window) (stencil : Bool)
+pub tiles-of : (u : Ula) (v : Tiles) (clip bank pal old out : List ℕ) (line : LineNumber) (t : TileSetup) (w : Window) (stencil : Bool)
     → out ≡ tab (λ (k : ℕ). composed stencil pal (getD old k 0) (tileDot w t (v .transparent) bank (line .0) k)) 640
-    → pal ≡ cond (tileSecondShown v) second first → t ≡ setupOf v (ulaOn u) → w ≡ windowOf v clip line → stencil ≡ stencilOn u v
-    → out ≡ tab (λ (k : ℕ). composed (stencilOn u v) (cond (tileSecondShown v) second first) (getD old k 0)
-    (tileDot (windowOf v clip line) (setupOf v (ulaOn u)) (v .transparent) bank (line .0) k)) 640
-tiles-of u v clip first second bank pal old out line t w stencil e ep et ew es =
-    e ∙ tab-ext _ _ 640 (λ k h. rw (ep, et, ew, es))
+    → t ≡ setupOf v (ulaOn u) → w ≡ windowOf v clip line → stencil ≡ stencilOn u v
+    → out ≡ tab (λ (k : ℕ). composed (stencilOn u v) pal (getD old k 0) (tileDot (windowOf v clip line) (setupOf v (ulaOn u)) (v .transparent) bank (line .0) k)) 640
+tiles-of u v clip bank pal old out line t w stencil e et ew es =
+    e ∙ tab-ext _ _ 640 (λ k h. rw (et, ew, es))
 
 -- the tilemap's dots with the ULA's are the composed line
 pub layered-line : (s : State) (line : LineNumber) (ula tile u out : List ℕ) → u ≡ tab (ulaDot s ula line) 640
@@ -125,14 +121,6 @@ pub layered-line : (s : State) (line : LineNumber) (ula tile u out : List ℕ) �
     → out ≡ composedLine s ula tile line
 unfolding composedLine composedDot
 layered-line s line ula tile u out d e = e ∙ tab-ext _ _ 640 (λ k h. rw (d, getD-tab (ulaDot s ula line) 640 k h))
-
-pub whole-line : (s : State) (line : LineNumber) (ula tile u out : List ℕ)
-    → out ≡ tab (λ (k : ℕ). composed (stencilOn (s .ula) (s .tiles)) (cond (tileSecondShown (s .tiles)) (s .tilesecond) (s .tilefirst)) (getD u k 0)
-    (tileDot (windowOf (s .tiles) (s .tileclip) line) (setupOf (s .tiles) (ulaOn (s .ula))) (s .tiles .transparent) tile (line .0) k)) 640
-    → u ≡ tab (ulaDot (shownState (s .ula) (s .palette) (s .ports) (s .frame) (s .ulaclip) (s .plus) (s .ulafirst) (s .ulasecond)) ula line) 640
-    → out ≡ composedLine s ula tile line
-unfolding tileDotOf tilePalette
-whole-line s line ula tile u out e eu = layered-line s line ula tile u out (eu ∙ ap (λ (f : ℕ → ℕ). tab f 640) (same-dots s ula line)) e
 
 pub finished-line : (s : State) (line : LineNumber) (ula tile row out : List ℕ) (fallback : ℕ)
     → out ≡ finished fallback row → row ≡ composedLine s ula tile line → fallback ≡ widened (s .ula .fallback) → out ≡ drawnLine s ula tile line

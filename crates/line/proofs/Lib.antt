@@ -1,4 +1,5 @@
-pub mod Bounded
 pub mod Shaded
+pub mod Bounded
 pub mod Layers
+pub mod Shown
 pub mod Exits

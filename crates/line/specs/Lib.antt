@@ -1,4 +1,5 @@
 pub mod Compose
 pub mod Shades
 pub mod Lines
+pub mod Shown
 pub mod Replies

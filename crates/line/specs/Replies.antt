@@ -1,12 +1,13 @@
 -- Reply numbers: what a drawing is refused for, and "Drawing: 1, 2, 3, 4, 6, 7, 5, 8."
-use Prim.Native.Nat.{ℕ, _+_, _*_}
+use Prim.Native.Nat.{ℕ}
 use mathlib.Core.List.{List, [], _∷_}
 use mathlib.Core.Bool.{Bool, cond, _&&_}
 use lib.Dec.{eqb, leb}
 use Rattle.reply.specs.Reply.{isDone}
+use Rattle.reply.specs.First.{firstHit}
 use Rattle.reply.specs.declared.Reply.{Reply}
 use Rattle.reply.specs.declared.Reply.the-variants.{Done, NoLine, BankLength, BufferLength, NotLawful, NoMode, LoresWithTiles, NextWithPlus, FarOffset}
-use Rattle.state.specs.Bits.{loresOn, nextOn, ulaOn, tilemapOn, columns80}
+use Rattle.state.specs.Bits.{loresOn, nextOn, ulaOn, tilemapOn, columns80, widthOf, xOffset}
 use Rattle.state.specs.Lawful.{lawfulState}
 use Rattle.state.specs.declared.State.{State}
 use Rattle.state.specs.declared.Ula.{Ula}
@@ -16,7 +17,6 @@ use Rattle.state.specs.declared.Ports.{Ports}
 use Rattle.surface.specs.Lines.{isLine}
 use Rattle.surface.specs.declared.lines.LineNumber.{LineNumber}
 use Rattle.ula_address.specs.Modes.{modeOf, isMissing}
-use Rattle.tilemap.specs.Index.{widthOf}
 
 -- 1: line above 255
 unfoldable pub lineReply : LineNumber → Reply
@@ -44,7 +44,7 @@ noMode u ports = ulaOn u && isMissing (modeOf u ports)
 
 -- 8: tilemap on, X offset at or above W
 abbrev pub farOffset : Tiles → Bool
-farOffset t = tilemapOn t && leb (widthOf (columns80 t)) (t .xhigh * 256 + t .xlow)
+farOffset t = tilemapOn t && leb (widthOf (columns80 t)) (xOffset t)
 
 -- what the state alone is refused for: 6, 7, 5, 8
 unfoldable pub stateReply : Ula → Tiles → Palette → Ports → Reply
@@ -53,15 +53,6 @@ stateReply u t p ports =
     (cond (nextWithPlus p ports) NextWithPlus
     (cond (noMode u ports) NoMode
     (cond (farOffset t) FarOffset Done)))
-
--- the first of two that refuses
-unfoldable pub firstOf : Reply → Reply → Reply
-firstOf first next = cond (isDone first) next first
-
--- the first of a list
-abbrev pub firstHit : List Reply → Reply
-firstHit [] = Done
-firstHit (r ∷ rs) = firstOf r (firstHit rs)
 
 -- drawing: 1; 2, 3; 4; 6, 7, 5, 8
 unfoldable pub drawReply : LineNumber → ℕ → ℕ → ℕ → State → Reply

@@ -1,6 +1,6 @@
 // The tile dots of a line over and under its ULA dots.
 ghost use mathlib.Core.Path.{_≡_};
-ghost use Prim.Native.Nat.{ℕ, _+_, _/_, _≤_, _<_};
+ghost use Prim.Native.Nat.{ℕ, _+_, _/_, _<_};
 ghost use lib.ListN.{length, getD};
 ghost use Rattle.lists.specs.Tab.{tab};
 ghost use Rattle.surface.specs.Dots.{clipped};
@@ -66,33 +66,6 @@ fn row_dots(row: &[u16], columns80: bool, skew: usize, dots: &mut [u16])
     }
 }
 
-// The first dot of a pixel, or the line's end.
-fn first_dot(left: usize) -> usize
-    ensures { λ r. ⌜ (r ≤ 640) × ((d : ℕ) → d < r → d / 2 < left) × ((d : ℕ) → r ≤ d → d < 640 → left ≤ d / 2) ⌝ }
-{
-    if left < 320 { left * 2 } else { 640 }
-}
-
-// The dot after a pixel, or the line's end.
-fn past_dot(right: usize) -> usize
-    ensures { λ r. ⌜ (r ≤ 640) × ((d : ℕ) → d < r → d / 2 ≤ right) × ((d : ℕ) → r ≤ d → d < 640 → right < d / 2) ⌝ }
-{
-    if right < 320 { right * 2 + 2 } else { 640 }
-}
-
-// What lies left of the clip and right of it becomes transparent.
-fn clip_dots(left: usize, right: usize, dots: &mut [u16])
-    requires { ⌜ length (now dots) ≡ 640 ⌝ }
-    ensures { λ r. ⌜ now (dots .exit) ≡ tab (λ (k : ℕ). clipped (k / 2) left right (getD (now (dots .entry)) k 0)) 640 ⌝ }
-{
-    let start = 0;
-    let first = first_dot(left);
-    ula::paint(512, &mut dots[start..first]);
-    let past = past_dot(right);
-    let end = 640;
-    ula::paint(512, &mut dots[past..end]);
-}
-
 // The ULA's dots in out with tile dots of these shades; many dots are composed at once.
 fn compose_dots(stencil: bool, dots: &[u16], out: &mut [u16])
     requires { ⌜ (length (now dots) ≡ 640) × (length (now out) ≡ 640) ⌝ }
@@ -118,6 +91,6 @@ pub fn compose_row(
 {
     let mut dots = [0u16; 640];
     row_dots(row, columns80, skew, &mut dots);
-    clip_dots(left, right, &mut dots);
+    surface::clip_dots(left, right, &mut dots);
     compose_dots(stencil, &dots, out);
 }

@@ -2,13 +2,17 @@
 mod compose;
 mod drawer;
 mod lines;
+mod parts;
 mod replies;
 
 pub use drawer::draw;
+pub use drawer::draw_shown;
 pub use lines::composed_line;
+pub use lines::composed_shown;
 pub use lines::finish_line;
 pub use lines::tiles_over;
-pub use replies::first_of;
+pub use parts::Shown;
+pub use parts::shown_of;
 pub use replies::lawful_reply;
 pub use replies::lengths_reply;
 pub use replies::line_reply;

@@ -1,10 +1,10 @@
 // A line before the fallback, and the fallback over it.
 ghost use mathlib.Core.Path.{_≡_};
 ghost use mathlib.Core.Bool.{true, cond};
-ghost use Prim.Native.Nat.{ℕ, _/_, _<_, _≤_};
+ghost use Prim.Native.Nat.{ℕ, _<_, _≤_};
 ghost use lib.ListN.{length, getD};
 ghost use Rattle.lists.specs.Tab.{tab};
-ghost use Rattle.state.specs.Bits.{ulaOn, tileSecondShown};
+ghost use Rattle.state.specs.Bits.{ulaOn, ulaSecondShown, tileSecondShown};
 ghost use Rattle.state.specs.Lawful.{allColours, lawfulState};
 ghost use Rattle.surface.specs.Lines.{isLine};
 ghost use Rattle.tilemap.specs.Dots.{tileDot};
@@ -13,7 +13,10 @@ ghost use Rattle.tilemap.specs.Bounds.{SetupBounds};
 ghost use Rattle.line.specs.Compose.{composed};
 ghost use Rattle.line.specs.Shades.{unlessTransparent, shadesOf};
 ghost use Rattle.line.specs.Lines.{stencilOn, composedLine, finished};
+ghost use Rattle.line.specs.Shown.{stateShown, ShownBounds};
 use crate::compose::compose_row;
+use crate::parts::Shown;
+use crate::parts::shown_of;
 use state::State;
 use state::Tiles;
 use state::Ula;
@@ -37,7 +40,7 @@ fn stencil_on(u: Ula, t: Tiles) -> bool
 {
     let ula = state::ula_on(u);
     let tiles = state::tilemap_on(t);
-    (u.control % 2 == 1) & ula & tiles
+    state::stencil_set(u) & ula & tiles
 }
 
 // A colour of the palette at an index, or 512 where the pixel there is the transparent one.
@@ -80,58 +83,99 @@ fn layered(
         compose_row(stencil, &row, t.columns80, t.x % 8, w.left, w.right, out);
     } else {
         if stencil {
-            ula::paint(512, out);
+            surface::paint(512, out);
         }
     }
 }
 
-// The tilemap's dots composed with the ULA's in out, of any state with these parts; a lawful state keeps their bounds.
-pub fn tiles_over<'a>(
+// The tilemap's dots composed with the ULA's in out, of any state with these parts and this palette shown; a lawful state keeps their
+// bounds. A leaf for a caller that reads the palette only where the tilemap is on.
+pub fn tiles_over(
     u: Ula,
     t: Tiles,
-    clip: &'a [u8; 4],
-    first: &'a [u16; 256],
-    second: &'a [u16; 256],
+    clip: &[u8; 4],
+    pal: &[u16; 256],
     bank: &[u8],
     line: LineNumber,
     out: &mut [u16],
 )
-    requires { ⌜ (t .xhigh ≤ 3) × (t .map < 64) × (t .definitions < 64) × (allColours (now first) ≡ true) × (allColours (now second) ≡ true) × (line .0 < 256) × (length (now bank) ≡ 16384) × (length (now out) ≡ 640) ⌝ }
-    ensures { λ r. ⌜ now (out .exit) ≡ tab (λ (k : ℕ). composed (stencilOn u t) (cond (tileSecondShown t) (now (second .entry)) (now (first .entry))) (getD (now (out .entry)) k 0)
+    requires { ⌜ (t .xhigh ≤ 3) × (t .map < 64) × (t .definitions < 64) × (allColours (now pal) ≡ true) × (line .0 < 256) × (length (now bank) ≡ 16384) × (length (now out) ≡ 640) ⌝ }
+    ensures { λ r. ⌜ now (out .exit) ≡ tab (λ (k : ℕ). composed (stencilOn u t) (now (pal .entry)) (getD (now (out .entry)) k 0)
         (tileDot (windowOf t (now (clip .entry)) line) (setupOf t (ulaOn u)) (t .transparent) (now (bank .entry)) (line .0) k)) 640 ⌝ }
 {
-    let pal = tile_palette(t, first, second);
     let w = tilemap::window_of(t, clip, line);
     let l = tilemap::setup_of(t, state::ula_on(u));
     let stencil = stencil_on(u, t);
     layered(l, w, t.transparent, stencil, pal, bank, line, out);
 }
 
-// The 640 composed dots of a line, 512 where transparent. Asks for a lawful state, a line and lengths that the caller has judged;
-// what the state alone is refused for it does not ask.
-pub fn composed_line(s: State, line: LineNumber, ula: &[u8], tile: &[u8], out: &mut [u16])
-    requires { ⌜ (lawfulState s ≡ true) × (isLine line ≡ true) × (length (now ula) ≡ 16384) × (length (now tile) ≡ 16384) × (length (now out) ≡ 640) ⌝ }
-    ensures { λ r. ⌜ now (out .exit) ≡ composedLine s (now (ula .entry)) (now (tile .entry)) line ⌝ }
+// The 640 composed dots of a line, 512 where transparent, from what it shows and the palettes shown. Asks for what a lawful state
+// keeps, a line and lengths that the caller has judged; what the state alone is refused for it does not ask. With the tilemap off its
+// palette may hold anything.
+pub fn composed_shown(
+    v: Shown,
+    ulapal: &[u16; 256],
+    tilepal: &[u16; 256],
+    ula: &[u8],
+    tile: &[u8],
+    line: LineNumber,
+    out: &mut [u16],
+)
+    requires { ⌜ (ShownBounds v (now tilepal)) × (isLine line ≡ true) × (length (now ula) ≡ 16384) × (length (now tile) ≡ 16384) × (length (now out) ≡ 640) ⌝ }
+    ensures { λ r. ⌜ now (out .exit) ≡ composedLine (stateShown v (now (ulapal .entry)) (now (tilepal .entry))) (now (ula .entry)) (now (tile .entry)) line ⌝ }
 {
     ula::ula_row(
-        s.ula,
-        s.palette,
-        s.ports,
-        s.frame,
-        &s.ulaclip,
-        &s.plus,
-        &s.ulafirst,
-        &s.ulasecond,
+        v.ula,
+        v.palette,
+        v.ports,
+        v.frame,
+        &v.ulaclip,
+        &v.plus,
+        ulapal,
         ula,
         line,
         out,
     );
-    tiles_over(
-        s.ula,
-        s.tiles,
-        &s.tileclip,
+    if state::tilemap_on(v.tiles) {
+        tiles_over(v.ula, v.tiles, &v.tileclip, tilepal, tile, line, out);
+    }
+}
+
+// A state's four palettes are lent by one call and chosen here: two of them held apart would be lent at two lifetimes, which no proof
+// covers.
+fn composed_chosen<'a>(
+    v: Shown,
+    ulafirst: &'a [u16; 256],
+    ulasecond: &'a [u16; 256],
+    tilefirst: &'a [u16; 256],
+    tilesecond: &'a [u16; 256],
+    ula: &[u8],
+    tile: &[u8],
+    line: LineNumber,
+    out: &mut [u16],
+)
+    requires { ⌜ (ShownBounds v (cond (tileSecondShown (v .tiles)) (now tilesecond) (now tilefirst))) × (isLine line ≡ true) × (length (now ula) ≡ 16384) × (length (now tile) ≡ 16384) × (length (now out) ≡ 640) ⌝ }
+    ensures { λ r. ⌜ now (out .exit) ≡ composedLine (stateShown v (cond (ulaSecondShown (v .palette)) (now (ulasecond .entry)) (now (ulafirst .entry)))
+        (cond (tileSecondShown (v .tiles)) (now (tilesecond .entry)) (now (tilefirst .entry)))) (now (ula .entry)) (now (tile .entry)) line ⌝ }
+{
+    let ulapal = ula::ula_palette(v.palette, ulafirst, ulasecond);
+    let tilepal = tile_palette(v.tiles, tilefirst, tilesecond);
+    composed_shown(v, ulapal, tilepal, ula, tile, line, out);
+}
+
+// The composed line of a lawful state.
+pub fn composed_line(s: State, line: LineNumber, ula: &[u8], tile: &[u8], out: &mut [u16])
+    requires { ⌜ (lawfulState s ≡ true) × (isLine line ≡ true) × (length (now ula) ≡ 16384) × (length (now tile) ≡ 16384) × (length (now out) ≡ 640) ⌝ }
+    ensures { λ r. ⌜ now (out .exit) ≡ composedLine s (now (ula .entry)) (now (tile .entry)) line ⌝ }
+{
+    let v = shown_of(s);
+    composed_chosen(
+        v,
+        &s.ulafirst,
+        &s.ulasecond,
         &s.tilefirst,
         &s.tilesecond,
+        ula,
         tile,
         line,
         out,

@@ -1,9 +1,6 @@
-// What a drawing is refused for, piece by piece, and the order of the pieces.
+// What a drawing is refused for, piece by piece.
 ghost use mathlib.Core.Path.{_≡_};
-ghost use Prim.Native.Nat.{_+_, _*_, _<_};
-ghost use Rattle.tilemap.specs.Index.{widthOf};
-ghost use Rattle.line.specs.Replies.{lineReply, lengthsReply, lawfulReply, loresWithTiles, nextWithPlus, noMode, farOffset, stateReply, firstOf};
-use lists::usize_of;
+ghost use Rattle.line.specs.Replies.{lineReply, lengthsReply, lawfulReply, loresWithTiles, nextWithPlus, noMode, farOffset, stateReply};
 use reply::Reply;
 use state::Palette;
 use state::Ports;
@@ -67,17 +64,11 @@ fn no_mode(u: Ula, ports: Ports) -> bool
     state::ula_on(u) & missing
 }
 
-fn width_of(columns80: bool) -> usize
-    ensures { λ r. ⌜ r ≡ widthOf columns80 ⌝ }
-{
-    if columns80 { 640 } else { 320 }
-}
-
 fn far_offset(t: Tiles) -> bool
     ensures { λ r. ⌜ r ≡ farOffset t ⌝ }
 {
-    let width = width_of(t.control / 64 % 2 == 1);
-    let x = usize_of(t.xhigh) * 256 + usize_of(t.xlow);
+    let width = state::width_of(state::columns80(t));
+    let x = state::x_offset(t);
     state::tilemap_on(t) & (width <= x)
 }
 
@@ -98,15 +89,4 @@ pub fn state_reply(u: Ula, t: Tiles, p: Palette, ports: Ports) -> Reply
         return Reply::FarOffset;
     }
     Reply::Done
-}
-
-// The first of two replies that refuses.
-pub fn first_of(first: Reply, next: Reply) -> Reply
-    ensures { λ r. ⌜ r ≡ firstOf first next ⌝ }
-{
-    if reply::number(first) == 0 {
-        next
-    } else {
-        first
-    }
 }

@@ -27,11 +27,11 @@ pub fn print_lines(ula: &[u8], tile: &[u8], s: State) {
 }
 
 fn print_case(record: &[u8], bank: &[u8]) {
-    let held = record::read_record(record);
-    let r = held.reply;
+    let read = record::read_record(record);
+    let r = read.reply;
     let n = reply::number(r);
     if n == 0 {
-        let s = held.state;
+        let s = read.state;
         print_lines(bank, bank, s);
     } else {
         report::row(b"record refused", n as u64);

@@ -5,3 +5,4 @@ pub mod Counts
 pub mod Cuts
 pub mod Placed
 pub mod Cond
+pub mod Chain

@@ -21,10 +21,10 @@ fn draw_example() {
 }
 
 fn draw_record(record: &[u8], ula: &[u8], tile: &[u8]) {
-    let held = record::read_record(record);
-    let r = held.reply;
+    let read = record::read_record(record);
+    let r = read.reply;
     if reply::number(r) == 0 {
-        let s = held.state;
+        let s = read.state;
         output::show(s, ula, tile);
     } else {
         complaints::refused(r);

@@ -1,5 +1,5 @@
--- No place of a record is bad exactly where its flags are 0 or 1 and the state in it is lawful: the layout's bounds and
--- those of a lawful state are taken apart and put together one by one.
+-- No place of a record is bad exactly where its flags are 0 or 1 and the state in it is lawful: the bounds that a lawful state
+-- keeps are those of the layout's parts, one by one.
 use mathlib.Core.Path.{_≡_, refl, sym, ap, _∙_}
 use mathlib.Core.List.{List, [], _∷_, _++_}
 use mathlib.Core.Bool.{Bool, true, false, _&&_}
@@ -7,11 +7,12 @@ use Prim.Native.Nat.{ℕ, zero, suc, _+_, _*_, _<_}
 use native.Mathlib.Omega.{arith}
 use lib.ListN.{length, drop, getD}
 use Rattle.lists.specs.Tab.{tab}
-use Rattle.lists.proofs.Cond.{left-true, right-true}
+use Rattle.lists.proofs.Cond.{left-true, right-true, and-assoc}
+use Rattle.lists.proofs.Chain.{chain, chain-apart, chain-join}
 use Rattle.lists.proofs.Search.{below}
-use Rattle.state.specs.declared.State.{State}
-use Rattle.state.specs.Bounds.{ulaYFits, isMask, isChoice, halfFits, tileTransparentFits, ulaControlFits, tileControlFits, xHighFits, baseFits, turnFits, borderFits, selectFits, colourFits}
-use Rattle.state.specs.Lawful.{lawfulUla, lawfulPalette, lawfulTiles, lawfulTurns, lawfulPorts, allColours, lawfulState}
+use Rattle.state.specs.Bounds.{colourFits}
+use Rattle.state.specs.Lawful.{allColours, lawfulState}
+use Rattle.state.proofs.Kept.{Kept, lawful-kept, kept-lawful}
 use Rattle.record_layout.specs.Fields.{pair, fieldSize, fieldAt}
 use Rattle.record_layout.specs.Version.{current}
 use Rattle.record_layout.specs.Layout.{isFlag, layout}
@@ -19,106 +20,7 @@ use Rattle.record_layout.specs.Places.{partsPlace, heldPlace, plusOnPlac
 use Rattle.record_layout.specs.Record.{stateAs, stateIn, recordLength, sound}
 use Rattle.record_layout.proofs.Parts.{Good, placeOf, later, sound-good, good-sound}
 
--- a chain of `&&`, and each of its tests
-abbrev conj : Bool → List Bool → Bool
-conj a [] = a
-conj a (b ∷ bs) = conj (a && b) bs
-
-abbrev Each : List Bool → Type 0
-Each [] = Unit
-Each (b ∷ bs) = (b ≡ true) × Each bs
-
-split : (a : Bool) (bs : List Bool) → conj a bs ≡ true → (a ≡ true) × Each bs
-split a [] e = (e, tt)
-split a (b ∷ bs) e = let r = split (a && b) bs e in (left-true a b (r .0), (right-true a b (r .0), r .1))
-
-join : (a : Bool) (bs : List Bool) → a ≡ true → Each bs → conj a bs ≡ true
-join a [] e z = e
-join a (b ∷ bs) e z = join (a && b) bs (let f = z .0 in cc) (z .1)
-
--- the bounds of a lawful state, one by one
-record Kept (s : State) : Type 0 where
-  ulay : ulaYFits (s .ula .y) ≡ true
-  control : ulaControlFits (s .ula .control) ≡ true
-  mask : isMask (s .palette .mask) ≡ true
-  choice : isChoice (s .palette .control) ≡ true
-  half : halfFits (s .palette .held) (s .palette .half) ≡ true
-  tile : tileTransparentFits (s .tiles .transparent) ≡ true
-  tilemap : tileControlFits (s .tiles .control) ≡ true
-  xhigh : xHighFits (s .tiles .xhigh) ≡ true
-  map : baseFits (s .tiles .map) ≡ true
-  definitions : baseFits (s .tiles .definitions) ≡ true
-  ulaturn : turnFits (s .turns .ula) ≡ true
-  tileturn : turnFits (s .turns .tiles) ≡ true
-  border : borderFits (s .ports .border) ≡ true
-  select : selectFits (s .ports .select) ≡ true
-  ulafirst : allColours (s .ulafirst) ≡ true
-  ulasecond : allColours (s .ulasecond) ≡ true
-  tilefirst : allColours (s .tilefirst) ≡ true
-  tilesecond : allColours (s .tilesecond) ≡ true
-
-module _ (s : State) where
-  abbrev groups : List Bool
-  groups = lawfulPalette (s .palette) ∷ lawfulTiles (s .tiles) ∷ lawfulTurns (s .turns) ∷ lawfulPorts (s .ports) ∷ []
-
-  abbrev colours : List Bool
-  colours = allColours (s .ulafirst) ∷ allColours (s .ulasecond) ∷ allColours (s .tilefirst) ∷ allColours (s .tilesecond) ∷ []
-
-  abbrev inPalette : List Bool
-  inPalette = isChoice (s .palette .control) ∷ halfFits (s .palette .held) (s .palette .half) ∷ []
-
-  abbrev inTiles : List Bool
-  inTiles = tileControlFits (s .tiles .control) ∷ xHighFits (s .tiles .xhigh) ∷ baseFits (s .tiles .map) ∷ baseFits (s .tiles .definitions) ∷ []
-
-  kept : lawfulState s ≡ true → Kept s
-  unfolding lawfulState
-  kept e =
-      let all : (conj (lawfulUla (s .ula)) groups ≡ true) × Each colours = split (conj (lawfulUla (s .ula)) groups) colours e in
-      let g : (lawfulUla (s .ula) ≡ true) × Each groups = split (lawfulUla (s .ula)) groups (all .0) in
-      let u = split (ulaYFits (s .ula .y)) (ulaControlFits (s .ula .control) ∷ []) (g .0) in
-      let p = split (isMask (s .palette .mask)) inPalette (g .1 .0) in
-      let t = split (tileTransparentFits (s .tiles .transparent)) inTiles (g .1 .1 .0) in
-      let r = split (turnFits (s .turns .ula)) (turnFits (s .turns .tiles) ∷ []) (g .1 .1 .1 .0) in
-      let o = split (borderFits (s .ports .border)) (selectFits (s .ports .select) ∷ []) (g .1 .1 .1 .1 .0) in
-      let c = all .1 in
-      record {
-        ulay = u .0;
-        control = u .1 .0;
-        mask = p .0;
-        choice = p .1 .0;
-        half = p .1 .1 .0;
-        tile = t .0;
-        tilemap = t .1 .0;
-        xhigh = t .1 .1 .0;
-        map = t .1 .1 .1 .0;
-        definitions = t .1 .1 .1 .1 .0;
-        ulaturn = r .0;
-        tileturn = r .1 .0;
-        border = o .0;
-        select = o .1 .0;
-        ulafirst = c .0;
-        ulasecond = c .1 .0;
-        tilefirst = c .1 .1 .0;
-        tilesecond = c .1 .1 .1 .0;
-      }
-
-  lawful : Kept s → lawfulState s ≡ true
-  unfolding lawfulState
-  lawful k =
-      let u : lawfulUla (s .ula) ≡ true = join (ulaYFits (s .ula .y)) (ulaControlFits (s .ula .control) ∷ []) (k .ulay) (k .control, tt) in
-      let p : lawfulPalette (s .palette) ≡ true = join (isMask (s .palette .mask)) inPalette (k .mask) (k .choice, (k .half, tt)) in
-      let t : lawfulTiles (s .tiles) ≡ true =
-      join (tileTransparentFits (s .tiles .transparent)) inTiles (k .tile) (k .tilemap, (k .xhigh, (k .map, (k .definitions, tt)))) in
-      let r : lawfulTurns (s .turns) ≡ true = join (turnFits (s .turns .ula)) (turnFits (s .turns .tiles) ∷ []) (k .ulaturn) (k .tileturn, tt) in
-      let o : lawfulPorts (s .ports) ≡ true = join (borderFits (s .ports .border)) (selectFits (s .ports .select) ∷ []) (k .border) (k .select, tt) in
-      join (conj (lawfulUla (s .ula)) groups) colours (join (lawfulUla (s .ula)) groups u (p, (t, (r, (o, tt)))))
-      (k .ulafirst, (k .ulasecond, (k .tilefirst, (k .tilesecond, tt))))
-
 -- the colours of a row, one by one
-and-assoc : (a b c : Bool) → (a && (b && c)) ≡ ((a && b) && c)
-and-assoc true b c = refl
-and-assoc false b c = refl
-
 colours-append : (xs ys : List ℕ) → allColours (xs ++ ys) ≡ (allColours xs && allColours ys)
 colours-append [] ys = refl
 colours-append (x ∷ xs) ys =
@@ -139,7 +41,7 @@ colours-all f zero h = refl
 colours-all f (suc n) h =
     let a : allColours (tab f n) ≡ true = colours-all f n (λ i l. h i (omega (arith, l))) in
     let b : colourFits (f n) ≡ true = h n (omega arith) in
-    colours-append (tab f n) (f n ∷ []) ∙ join (allColours (tab f n)) ((colourFits (f n) && true) ∷ []) a (cc, tt)
+    colours-append (tab f n) (f n ∷ []) ∙ chain-join (allColours (tab f n)) ((colourFits (f n) && true) ∷ []) a (cc, tt)
 
 -- one fact and those after it
 infixr 2 _▸_
@@ -159,12 +61,12 @@ module _ (b : List ℕ) where
   unfolding stateAs
   good-kept g = record {
     ulay = part 17 g .0;
-    control = part 8 g .0;
+    ulacontrol = part 8 g .0;
     mask = part 5 g .0;
     choice = part 3 g .0;
     half = part 23 g .0;
-    tile = part 7 g .0;
-    tilemap = part 9 g .0;
+    tiletransparent = part 7 g .0;
+    tilecontrol = part 9 g .0;
     xhigh = part 11 g .0;
     map = part 14 g .0;
     definitions = part 15 g .0;
@@ -186,20 +88,20 @@ module _ (b : List ℕ) where
       let second = colours-each (colourAt ulaSecondPlace) 256 (k .ulasecond) in
       let third = colours-each (colourAt tileFirstPlace) 256 (k .tilefirst) in
       let fourth = colours-each (colourAt tileSecondPlace) 256 (k .tilesecond) in
-      refl ▸ refl ▸ refl ▸ k .choice ▸ refl ▸ k .mask ▸ refl ▸ k .tile ▸ k .control ▸ k .tilemap ▸ refl ▸ k .xhigh ▸ refl ▸ refl
+      refl ▸ refl ▸ refl ▸ k .choice ▸ refl ▸ k .mask ▸ refl ▸ k .tiletransparent ▸ k .ulacontrol ▸ k .tilecontrol ▸ refl ▸ k .xhigh ▸ refl ▸ refl
       ▸ k .map ▸ k .definitions ▸ refl ▸ k .ulay ▸ free 4 ▸ free 4 ▸ k .ulaturn ▸ k .tileturn ▸ h ▸ k .half ▸ k .border ▸ refl
       ▸ k .select ▸ p ▸ refl ▸ free 64 ▸ first ▸ second ▸ third ▸ fourth ▸ tt
 
   -- no place is bad: the flags are 0 or 1, and the state is lawful
   pub sound-lawful : length b ≡ recordLength → sound current b ≡ (isFlag (getD b heldPlace 0) && isFlag (getD b plusOnPlace 0) && lawfulState (stateIn b))
   sound-lawful l =
-      same (sound current b) (conj (isFlag (getD b heldPlace 0)) tests)
+      same (sound current b) (chain (isFlag (getD b heldPlace 0)) tests)
       (λ e.
       let g : Good (layout current) b partsPlace = sound-good current b l e in
-      join (isFlag (getD b heldPlace 0)) tests (part 22 g .0) (part 27 g .0, (lawful (stateIn b) (good-kept g), tt)))
+      chain-join (isFlag (getD b heldPlace 0)) tests (part 22 g .0) (part 27 g .0, (kept-lawful (stateIn b) (good-kept g), tt)))
       (λ e.
-      let r = split (isFlag (getD b heldPlace 0)) tests e in
-      good-sound current b (kept-good (r .0) (r .1 .0) (kept (stateIn b) (r .1 .1 .0))))
+      let r = chain-apart (isFlag (getD b heldPlace 0)) tests e in
+      good-sound current b (kept-good (r .0) (r .1 .0) (lawful-kept (stateIn b) (r .1 .1 .0))))
     where
       tests : List Bool
       tests = isFlag (getD b plusOnPlace 0) ∷ lawfulState (stateIn b) ∷ []

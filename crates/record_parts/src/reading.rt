@@ -31,16 +31,15 @@ fn pairs_at(b: &[u8], at: usize) -> [u16; 256]
     pairs
 }
 
-// The palette at a place.
+// The palette at a place: its pairs, each with its bytes exchanged.
 pub fn colours_at(b: &[u8], at: usize) -> [u16; 256]
     requires { ⌜ at + 512 ≤ length (now b) ⌝ }
     ensures { λ r. ⌜ r ≡ rowAt pair 256 (now (b .entry)) at ⌝ }
 {
-    let pairs = pairs_at(b, at);
-    let mut colours = [0u16; 256];
+    let mut colours = pairs_at(b, at);
     let mut i = 0;
     while i < 256 {
-        let v = pairs[i];
+        let v = colours[i];
         colours[i] = v % 256 * 256 + v / 256;
         i += 1;
     }

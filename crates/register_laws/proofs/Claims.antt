@@ -9,7 +9,7 @@ use lib.Seq.{getD-set-same}
 use lib.Dec.{leb}
 use borrow.Author.Tests.{le-leb, lt-leb, leb-true}
 use Rattle.lists.proofs.Cond.{if-true, if-false, either}
-use Rattle.reply.specs.declared.Reply.the-variants.{Done, NotLawful}
+use Rattle.reply.specs.declared.Reply.the-variants.{Done, NotLawful, NoRegister}
 use Rattle.state.specs.declared.State.{State}
 use Rattle.state.specs.declared.Answer.{Answer}
 use Rattle.state.specs.Answer.{done, refused}
@@ -19,15 +19,17 @@ use Rattle.state.specs.Lawful.{lawfulState}
 use Rattle.state.specs.Typed.{Typed}
 use Rattle.state.specs.Groups.{paletteWithHalf, turnsWithUla, turnsWithTiles}
 use Rattle.state.specs.With.{withPalette, withTurns}
-use Rattle.register_answers.specs.Answers.{ifFits, given, writeLawful}
+use Rattle.register_answers.specs.Answers.{ifFits, given, writeLawful, unread}
 use Rattle.register_answers.specs.Rows.{WriteRow, writeBy, readBy}
 use Rattle.register_clips.specs.Clips.{ulaClipWritten, tileClipWritten, restarted}
 use Rattle.register_palettes.specs.Palettes.{paletteAt, paletteChoice, colourAt, indexWritten, eightWritten, controlWritten}
 use Rattle.register_ports.specs.Ports.{modeGroup, plusWritten, plusRead, portWrites, portReads}
 use Rattle.registers.specs.Registers.{registerWrites, registerReads, writeRegister, writePort, readRegister, readPort}
-use Rattle.register_laws.specs.Claims.{Each, none, _▷_, LawfulStays, RefusedSame, ReadsBack, PortsReadBack, NineTwice, NineOnce, HalfDropped, HalfKept, fourWrites, FourClipWrites, TurnsRestarted, ClipReads, TurnsReads, ColourReads, ModeReads, WriteOnly}
+use Rattle.reply.specs.Reply.{replyNumber}
+use Rattle.register_answers.specs.declared.Reading.{Reading}
+use Rattle.register_laws.specs.Claims.{Each, none, _▷_, LawfulStays, RefusedSame, ReadsBack, PortsReadBack, NineTwice, NineOnce, HalfDropped, HalfKept, fourWrites, FourClipWrites, TurnsRestarted, ClipReads, TurnsReads, ColourReads, ModeReads, WriteOnly, NeverFour}
 use Rattle.register_laws.proofs.Parts.{Parts, join, split, apart, colour-at, palette-lawful}
-use Rattle.register_laws.proofs.Rows.{Sound, by-rows}
+use Rattle.register_laws.proofs.Rows.{Sound, by-rows, NotFour, by-reads}
 use Rattle.register_laws.proofs.Effects.{registers-sound, ports-sound, ula-turn, tile-turn, ula-clip, tile-clip}
 use Rattle.register_laws.proofs.Calls.{write-row, port-row, read-row, read-port-row, accepted, if-done}
 use Rattle.register_laws.proofs.Half.{stored-over, lawful-same, registers-same, ports-same}
@@ -57,6 +59,41 @@ lawfulStays = (stays registerWrites registers-sound, stays portWrites ports-soun
 pub refusedSame : RefusedSame
 unfolding RefusedSame writeRegister writePort
 refusedSame = (hands-back registerWrites registers-sound, hands-back portWrites ports-sound)
+
+four-not : (a b : Answer) → a ≡ b → NotFour b → NotFour a
+four-not a b e h d = h (sym (ap (λ (x : Answer). x .reply) e) ∙ d)
+
+-- a read that gives a byte, or is refused as no register
+abbrev ReadNotFour : Reading → Type 0
+ReadNotFour r = r .reply ≡ NotLawful → ⊥
+
+gives : Done ≡ NotLawful → ⊥
+gives e = omega (arith, ap replyNumber e)
+
+no-register : ReadNotFour (unread NoRegister)
+no-register e = omega (arith, ap replyNumber e)
+
+read-four-not : (a b : Reading) → a ≡ b → ReadNotFour b → ReadNotFour a
+read-four-not a b e h d = h (sym (ap (λ (x : Reading). x .reply) e) ∙ d)
+
+register-reads-give : (s : State) → Each (λ r. ReadNotFour (r .reading s)) registerReads
+register-reads-give s =
+    gives ▷ gives ▷ gives ▷ gives ▷ gives ▷ gives ▷ gives ▷ gives ▷ gives ▷ gives ▷ gives ▷ gives
+    ▷ gives ▷ gives ▷ gives ▷ gives ▷ gives ▷ gives ▷ gives ▷ gives ▷ gives ▷ gives ▷ gives ▷ none
+
+port-reads-give : (s : State) → Each (λ r. ReadNotFour (r .reading s)) portReads
+port-reads-give s =
+    either ReadNotFour (timexOn (s .ula)) _ _ gives no-register ▷ either ReadNotFour (modeGroup s) _ _ gives gives ▷ none
+
+pub neverFour : NeverFour
+neverFour = record {
+  registers =
+      λ s n v h. four-not _ _ (write-row s n v h) (by-rows NotFour registerWrites s n v (λ e. omega (arith, ap replyNumber e)) (λ f g. g .not-four s v) registers-sound);
+  ports =
+      λ s n v h. four-not _ _ (port-row s n v h) (by-rows NotFour portWrites s n v (λ e. omega (arith, ap replyNumber e)) (λ f g. g .not-four s v) ports-sound);
+  register-reads = λ s n h. read-four-not _ _ (read-row s n h) (by-reads ReadNotFour registerReads s n no-register (register-reads-give s));
+  port-reads = λ s n h. read-four-not _ _ (read-port-row s n h) (by-reads ReadNotFour portReads s n no-register (port-reads-give s));
+}
 
 -- ---- reading back
 

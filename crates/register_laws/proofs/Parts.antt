@@ -1,12 +1,13 @@
 -- A lawful and typed state taken apart into its groups and put together again, and what replacing one group or palette of it needs.
 use mathlib.Core.Path.{_≡_, refl}
 use mathlib.Core.List.{List, [], _∷_}
-use mathlib.Core.Bool.{Bool, true, _&&_}
+use mathlib.Core.Bool.{Bool, true}
 use Prim.Native.Nat.{ℕ, zero, suc, _≤_}
 use lib.ListN.{set, getD}
 use lib.Dec.{eqb, lit≤}
 use borrow.Author.Tests.{le-leb, leb-true}
 use Rattle.lists.proofs.Cond.{either, both, left-true, right-true}
+use Rattle.lists.proofs.Chain.{chain, chain-apart}
 use Rattle.state.specs.declared.State.{State}
 use Rattle.state.specs.declared.Ula.{Ula}
 use Rattle.state.specs.declared.Tiles.{Tiles}
@@ -17,6 +18,7 @@ use Rattle.state.specs.Bounds.{colourFits}
 use Rattle.state.specs.Lawful.{lawfulUla, lawfulPalette, lawfulTiles, lawfulTurns, lawfulPorts, allColours, lawfulState}
 use Rattle.state.specs.Typed.{Numbers, UlaTyped, TilesTyped, PaletteTyped, TurnsTyped, PortsTyped, Typed}
 use Rattle.state.specs.With.{withUla, withTiles, withPalette, withTurns, withPorts}
+use Rattle.state.proofs.Kept.{groups, colours}
 use Rattle.state.proofs.Typed as typed
 use Rattle.register_palettes.specs.Palettes.{paletteAt, withPaletteAt}
 
@@ -48,34 +50,12 @@ join s (g, k, z) =
 pub apart : (s : State) → lawfulState s ≡ true
     → Groups (s .ula) (s .palette) (s .tiles) (s .turns) (s .ports) × Colours (s .ulafirst) (s .ulasecond) (s .tilefirst) (s .tilesecond)
 unfolding lawfulState
-apart s h9 =
-    let a2 : Bool = lawfulUla (s .ula) && lawfulPalette (s .palette) in
-    let a3 : Bool = a2 && lawfulTiles (s .tiles) in
-    let a4 : Bool = a3 && lawfulTurns (s .turns) in
-    let a5 : Bool = a4 && lawfulPorts (s .ports) in
-    let a6 : Bool = a5 && allColours (s .ulafirst) in
-    let a7 : Bool = a6 && allColours (s .ulasecond) in
-    let a8 : Bool = a7 && allColours (s .tilefirst) in
-    let h8 = left-true a8 (allColours (s .tilesecond)) h9 in
-    let h7 = left-true a7 (allColours (s .tilefirst)) h8 in
-    let h6 = left-true a6 (allColours (s .ulasecond)) h7 in
-    let h5 = left-true a5 (allColours (s .ulafirst)) h6 in
-    let h4 = left-true a4 (lawfulPorts (s .ports)) h5 in
-    let h3 = left-true a3 (lawfulTurns (s .turns)) h4 in
-    let h2 = left-true a2 (lawfulTiles (s .tiles)) h3 in (
-      record {
-        ula = left-true (lawfulUla (s .ula)) (lawfulPalette (s .palette)) h2;
-        palette = right-true (lawfulUla (s .ula)) (lawfulPalette (s .palette)) h2;
-        tiles = right-true a2 (lawfulTiles (s .tiles)) h3;
-        turns = right-true a3 (lawfulTurns (s .turns)) h4;
-        ports = right-true a4 (lawfulPorts (s .ports)) h5;
-      },
-      record {
-        ulafirst = right-true a5 (allColours (s .ulafirst)) h6;
-        ulasecond = right-true a6 (allColours (s .ulasecond)) h7;
-        tilefirst = right-true a7 (allColours (s .tilefirst)) h8;
-        tilesecond = right-true a8 (allColours (s .tilesecond)) h9;
-      },
+apart s h =
+    let all = chain-apart (chain (lawfulUla (s .ula)) (groups s)) (colours s) h in
+    let g = chain-apart (lawfulUla (s .ula)) (groups s) (all .0) in
+    let k = all .1 in (
+      record { ula = g .0; palette = g .1 .0; tiles = g .1 .1 .0; turns = g .1 .1 .1 .0; ports = g .1 .1 .1 .1 .0 },
+      record { ulafirst = k .0; ulasecond = k .1 .0; tilefirst = k .1 .1 .0; tilesecond = k .1 .1 .1 .0 },
     )
 
 pub split : (s : State) → lawfulState s ≡ true → Typed s → Parts s

@@ -4,7 +4,7 @@ use mathlib.Core.Path.{_≡_}
 use mathlib.Core.List.{List, [], _∷_}
 use mathlib.Core.Bool.{true, false, cond}
 use lib.ListN.{getD, set}
-use Rattle.reply.specs.declared.Reply.the-variants.{Done, NoRegister}
+use Rattle.reply.specs.declared.Reply.the-variants.{Done, NotLawful, NoRegister}
 use Rattle.state.specs.declared.State.{State}
 use Rattle.state.specs.declared.Answer.{Answer}
 use Rattle.state.specs.Answer.{done}
@@ -42,6 +42,13 @@ HandsBack write = (s : State) (n v : ℕ) → (write s n v .reply ≡ Done → �
 
 unfoldable pub RefusedSame : Type 0
 RefusedSame = HandsBack writeRegister × HandsBack writePort
+
+-- a lawful state is never refused as not lawful, whatever is written or read
+pub record NeverFour : Type 0 where
+  pub registers : (s : State) (n v : ℕ) → lawfulState s ≡ true → writeRegister s n v .reply ≡ NotLawful → ⊥
+  pub ports : (s : State) (n v : ℕ) → lawfulState s ≡ true → writePort s n v .reply ≡ NotLawful → ⊥
+  pub register-reads : (s : State) (n : ℕ) → lawfulState s ≡ true → readRegister s n .reply ≡ NotLawful → ⊥
+  pub port-reads : (s : State) (n : ℕ) → lawfulState s ≡ true → readPort s n .reply ≡ NotLawful → ⊥
 
 -- ---- reading back
 

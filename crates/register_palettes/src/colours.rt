@@ -7,6 +7,8 @@ use register_answers::accept;
 use register_answers::if_fits;
 use state::Answer;
 use state::State;
+use state::choice_of;
+use state::index_stays;
 
 // $40
 pub fn write_index(s: State, value: u8) -> Answer
@@ -36,7 +38,7 @@ fn store_colour(s: State, choice: u8, index: u8, colour: u16) -> State
 fn next_index(control: u8, index: u8) -> u8
     ensures { λ r. ⌜ r ≡ nextIndex control index ⌝ }
 {
-    if 128 <= control {
+    if index_stays(control) {
         index
     } else {
         std::num::wrapping_add_u8(index, 1)
@@ -54,7 +56,7 @@ fn put_colour(s: State, colour: u16) -> State
     p.index = next;
     p.held = false;
     p.half = 0;
-    let mut t = store_colour(s, control / 16 % 8, index, colour);
+    let mut t = store_colour(s, choice_of(control), index, colour);
     t.palette = p;
     t
 }
@@ -102,7 +104,7 @@ fn chosen_colour(s: State) -> u16
     ensures { λ r. ⌜ r ≡ colourAt s ⌝ }
 {
     let i = s.palette.index as usize;
-    let choice = s.palette.control / 16 % 8;
+    let choice = choice_of(s.palette.control);
     match choice {
         0 => s.ulafirst[i],
         4 => s.ulasecond[i],

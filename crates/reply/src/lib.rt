@@ -1,6 +1,10 @@
-// The answers of every call: a case for each row of document 01's reply table.
+// The answers of every call: a case for each row of document 01's reply table, and the first that refuses.
 ghost use mathlib.Core.Path.{_≡_};
 ghost use Rattle.reply.specs.Reply.{replyNumber};
+
+mod first;
+
+pub use first::first_of;
 
 pub enum Reply {
     Done,

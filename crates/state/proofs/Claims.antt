@@ -44,7 +44,7 @@ reset-lawful = refl
 pub resetLawful : ResetLawful
 resetLawful = (reset-lawful, reset-typed)
 
-frame-done : (s : State) → lawfulState s ≡ true → nextFrame s ≡ done (advanced s)
+pub frame-done : (s : State) → lawfulState s ≡ true → nextFrame s ≡ done (advanced s)
 unfolding nextFrame
 frame-done s h = rw h
 

@@ -1,3 +1,4 @@
 pub mod Colours
+pub mod Kept
 pub mod Typed
 pub mod Claims

@@ -1,6 +1,6 @@
 -- The state and its registers: what a bit of a stored byte means.
-use Prim.Native.Nat.{ℕ, _/_, _%_}
-use mathlib.Core.Bool.{Bool}
+use Prim.Native.Nat.{ℕ, _+_, _*_, _/_, _%_}
+use mathlib.Core.Bool.{Bool, true, false}
 use lib.Dec.{leb, ltb, eqb}
 use Rattle.state.specs.declared.Ula.{Ula}
 use Rattle.state.specs.declared.Tiles.{Tiles}
@@ -53,3 +53,16 @@ oneByteEntries t = eqb (t .control / 32 % 2) 1
 -- $6B: bit 4 the tilemap palette shown, the second where it is set
 abbrev pub tileSecondShown : Tiles → Bool
 tileSecondShown t = eqb (t .control / 16 % 2) 1
+
+-- 80 columns or 40
+abbrev pub columnsOf : Bool → ℕ
+columnsOf true = 80
+columnsOf false = 40
+
+-- width W is 320 or 640
+abbrev pub widthOf : Bool → ℕ
+widthOf columns80 = columnsOf columns80 * 8
+
+-- $2F, $30: the X offset, high byte and low
+abbrev pub xOffset : Tiles → ℕ
+xOffset t = t .xhigh * 256 + t .xlow

@@ -1,9 +1,11 @@
 // What single bits of the registers mean.
 ghost use mathlib.Core.Path.{_≡_};
-ghost use Rattle.state.specs.Bits.{timexOn, loresOn, nextOn, ulaSecondShown, ulaOn, tilemapOn, tileSecondShown};
+ghost use Prim.Native.Nat.{_+_, _*_, _<_, _≤_};
+ghost use Rattle.state.specs.Bits.{timexOn, loresOn, nextOn, ulaSecondShown, ulaOn, stencilSet, tilemapOn, columns80, oneByteEntries, tileSecondShown, columnsOf, widthOf, xOffset, choiceOf, indexStays};
 use crate::Palette;
 use crate::Tiles;
 use crate::Ula;
+use lists::usize_of;
 
 pub fn timex_on(u: Ula) -> bool
     ensures { λ r. ⌜ r ≡ timexOn u ⌝ }
@@ -29,6 +31,12 @@ pub fn ula_on(u: Ula) -> bool
     u.control < 128
 }
 
+pub fn stencil_set(u: Ula) -> bool
+    ensures { λ r. ⌜ r ≡ stencilSet u ⌝ }
+{
+    u.control % 2 == 1
+}
+
 pub fn tilemap_on(t: Tiles) -> bool
     ensures { λ r. ⌜ r ≡ tilemapOn t ⌝ }
 {
@@ -45,4 +53,49 @@ pub fn tile_second_shown(t: Tiles) -> bool
     ensures { λ r. ⌜ r ≡ tileSecondShown t ⌝ }
 {
     t.control / 16 % 2 == 1
+}
+
+pub fn columns80(t: Tiles) -> bool
+    ensures { λ r. ⌜ r ≡ columns80 t ⌝ }
+{
+    t.control / 64 % 2 == 1
+}
+
+pub fn one_byte_entries(t: Tiles) -> bool
+    ensures { λ r. ⌜ r ≡ oneByteEntries t ⌝ }
+{
+    t.control / 32 % 2 == 1
+}
+
+pub fn columns_of(columns80: bool) -> usize
+    ensures { λ r. ⌜ (r ≡ columnsOf columns80) × (r ≤ 80) ⌝ }
+{
+    if columns80 { 80 } else { 40 }
+}
+
+// The width in pixels.
+pub fn width_of(columns80: bool) -> usize
+    ensures { λ r. ⌜ (r ≡ widthOf columns80) × (r ≤ 640) ⌝ }
+{
+    columns_of(columns80) * 8
+}
+
+// The two bytes of the X offset.
+pub fn x_offset(t: Tiles) -> usize
+    ensures { λ r. ⌜ (r ≡ xOffset t) × (r < t .xhigh * 256 + 256) ⌝ }
+{
+    usize_of(t.xhigh) * 256 + usize_of(t.xlow)
+}
+
+// The palette that $43 chooses to be written.
+pub fn choice_of(control: u8) -> u8
+    ensures { λ r. ⌜ r ≡ choiceOf control ⌝ }
+{
+    control / 16 % 8
+}
+
+pub fn index_stays(control: u8) -> bool
+    ensures { λ r. ⌜ r ≡ indexStays control ⌝ }
+{
+    128 <= control
 }

@@ -9,6 +9,7 @@ use crate::State;
 use crate::Tiles;
 use crate::Turns;
 use crate::Ula;
+use crate::choice_of;
 
 // $33
 pub fn ula_y_fits(v: u8) -> bool
@@ -28,7 +29,7 @@ pub fn is_mask(x: u8) -> bool
 pub fn is_choice(control: u8) -> bool
     ensures { λ r. ⌜ r ≡ isChoice control ⌝ }
 {
-    let choice = control / 16 % 8;
+    let choice = choice_of(control);
     (choice == 0) | (choice == 4) | (choice == 3) | (choice == 7)
 }
 

@@ -6,7 +6,8 @@ use crate::State;
 use crate::lawful;
 use reply::Reply;
 
-fn advance(s: State) -> State
+// The state one frame on, without the judgement of lawful: for calls that have judged it.
+pub fn advance(s: State) -> State
     ensures { λ r. ⌜ r ≡ advanced s ⌝ }
 {
     let next = std::num::wrapping_add_u8(s.frame, 1);

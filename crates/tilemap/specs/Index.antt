@@ -5,17 +5,9 @@ use mathlib.Core.List.{List}
 use mathlib.Core.Bool.{Bool, true, false, cond, not}
 use lib.ListN.{getD}
 use lib.Dec.{eqb}
+pub use Rattle.state.specs.Bits.{columnsOf, widthOf}
 use Rattle.tilemap.specs.declared.rule.TileSetup.{TileSetup}
 use Rattle.tilemap.specs.declared.rule.Entry.{Entry}
-
--- 80 columns or 40
-abbrev pub columnsOf : Bool → ℕ
-columnsOf true = 80
-columnsOf false = 40
-
--- width W is 320 or 640
-abbrev pub widthOf : Bool → ℕ
-widthOf columns80 = columnsOf columns80 * 8
 
 -- tx = (x + X offset) mod W
 abbrev pub txOf : TileSetup → ℕ → ℕ

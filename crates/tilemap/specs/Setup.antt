@@ -6,7 +6,7 @@ use lib.ListN.{getD}
 use Rattle.surface.specs.Dots.{inside}
 use Rattle.surface.specs.declared.lines.LineNumber.{LineNumber}
 use Rattle.state.specs.declared.Tiles.{Tiles}
-use Rattle.state.specs.Bits.{tilemapOn, columns80, oneByteEntries}
+use Rattle.state.specs.Bits.{tilemapOn, columns80, oneByteEntries, xOffset}
 use Rattle.tilemap.specs.declared.rule.TileSetup.{TileSetup}
 use Rattle.tilemap.specs.declared.setup.PairCount.{PairCount}
 use Rattle.tilemap.specs.declared.setup.Window.{Window}
@@ -20,7 +20,7 @@ setupOf t on = record {
   ula = on;
   map = t .map * 256;
   definitions = t .definitions * 256;
-  x = t .xhigh * 256 + t .xlow;
+  x = xOffset t;
   y = t .y;
 }
 

@@ -40,14 +40,6 @@ pub fn window_of(t: Tiles, clip: &[u8; 4], l: LineNumber) -> Window
     }
 }
 
-// The two bytes of the X offset.
-fn offset_of(high: u8, low: u8) -> usize
-    requires { ⌜ high ≤ 3 ⌝ }
-    ensures { λ r. ⌜ (r ≡ high * 256 + low) × (r < 1024) ⌝ }
-{
-    usize_of(high) * 256 + usize_of(low)
-}
-
 // The address that $6E or $6F gives.
 fn address_of(v: u8) -> usize
     requires { ⌜ v < 64 ⌝ }
@@ -56,19 +48,21 @@ fn address_of(v: u8) -> usize
     usize_of(v) * 256
 }
 
-// The layout of a lawful state: its bounds are those of a lawful state's bytes.
+// The setup of a lawful state: its bounds are those of a lawful state's bytes.
 pub fn setup_of(t: Tiles, on: bool) -> TileSetup
     requires { ⌜ (t .xhigh ≤ 3) × (t .map < 64) × (t .definitions < 64) ⌝ }
     ensures { λ r. ⌜ (r ≡ setupOf t on) × (SetupBounds r) ⌝ }
 {
+    let columns80 = state::columns80(t);
+    let single = state::one_byte_entries(t);
     let attribute = usize_of(t.attribute);
     let map = address_of(t.map);
     let definitions = address_of(t.definitions);
-    let x = offset_of(t.xhigh, t.xlow);
+    let x = state::x_offset(t);
     let y = usize_of(t.y);
     TileSetup {
-        columns80: t.control / 64 % 2 == 1,
-        single: t.control / 32 % 2 == 1,
+        columns80,
+        single,
         attribute,
         ula: on,
         map,

@@ -1,4 +1,3 @@
 pub mod Parts
 pub mod Fills
-pub mod Clips
 pub mod Shows

@@ -1,6 +1,6 @@
 -- What a line shows of the state, put together from its parts.
 use Prim.Native.Nat.{ℕ}
-use mathlib.Core.Path.{_≡_, refl, ap, _∙_}
+use mathlib.Core.Path.{_≡_, refl, sym, ap, _∙_}
 use mathlib.Core.List.{List}
 use mathlib.Core.Bool.{Bool, true, false, cond}
 use Rattle.lists.specs.Tab.{tab}
@@ -30,28 +30,22 @@ unfolding ulaLine
 line-of s pal line on display border view colours o d b p c =
     cc
 
--- the dots of a line, from what it shows and its palette
-pub dots-of : (u : Ula) (p : Palette) (ports : Ports) (frame : ℕ) (clip plus first second bank pal out : List ℕ) (line : LineNumber) (l : UlaLine)
-    → out ≡ tab (rowDot l pal plus bank) 640 → l ≡ ulaLine (shownState u p ports frame clip plus pal pal) pal line
-    → pal ≡ cond (ulaSecondShown p) second first → out ≡ tab (ulaDot (shownState u p ports frame clip plus first second) bank line) 640
-unfolding ulaDot ulaLine ulaPalette
-dots-of u p ports frame clip plus first second bank pal out line l e d q =
-    e ∙ ap (λ (v : UlaLine). tab (rowDot v pal plus bank) 640) d
-    ∙ ap (λ (c : List ℕ). tab (rowDot (ulaLine (shownState u p ports frame clip plus first second) c line) c plus bank) 640) q
-
--- of a state no other part shows
-pub same-dots : (s : State) (bank : List ℕ) (line : LineNumber)
-    → ulaDot (shownState (s .ula) (s .palette) (s .ports) (s .frame) (s .ulaclip) (s .plus) (s .ulafirst) (s .ulasecond)) bank line ≡ ulaDot s bank line
-unfolding ulaDot ulaLine ulaPalette
-same-dots s bank line = refl
-
 pub twice : (pal : List ℕ) (b : Bool) → cond b pal pal ≡ pal
 twice pal true = refl
 twice pal false = refl
 
--- nor the palette that is not shown
+-- the dots of a line, from what it shows and its palette
+pub dots-of : (u : Ula) (p : Palette) (ports : Ports) (frame : ℕ) (clip plus bank pal out : List ℕ) (line : LineNumber) (l : UlaLine)
+    → out ≡ tab (rowDot l pal plus bank) 640 → l ≡ ulaLine (shownState u p ports frame clip plus pal) pal line
+    → out ≡ tab (ulaDot (shownState u p ports frame clip plus pal) bank line) 640
+unfolding ulaDot ulaPalette
+dots-of u p ports frame clip plus bank pal out line l e d =
+    e ∙ ap (λ (v : UlaLine). tab (rowDot v pal plus bank) 640) d
+    ∙ ap (λ (c : List ℕ). tab (rowDot (ulaLine (shownState u p ports frame clip plus pal) c line) c plus bank) 640) (sym (twice pal (ulaSecondShown p)))
+
+-- of a state no other part shows, nor the palette that is not shown
 pub shown-dots : (s : State) (pal bank : List ℕ) (line : LineNumber) → pal ≡ ulaPalette s
-    → ulaDot (shownState (s .ula) (s .palette) (s .ports) (s .frame) (s .ulaclip) (s .plus) pal pal) bank line ≡ ulaDot s bank line
+    → ulaDot (shownState (s .ula) (s .palette) (s .ports) (s .frame) (s .ulaclip) (s .plus) pal) bank line ≡ ulaDot s bank line
 unfolding ulaDot ulaLine ulaPalette
 shown-dots s pal bank line e =
     ap (λ (c : List ℕ). rowDot (ulaLine s c line) c (s .plus) bank) (twice pal (ulaSecondShown (s .palette)) ∙ e)

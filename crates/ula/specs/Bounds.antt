@@ -10,20 +10,19 @@ use Rattle.ula_attribute.specs.Bounds.{MaskBounds}
 use Rattle.ula.specs.declared.views.View.{View}
 use Rattle.ula.specs.declared.views.UlaLine.{UlaLine}
 
--- a line of the bank's picture, and bytes
+-- a line of the bank's picture, and a byte
 pub record ViewBounds (p : View) : Type 0 where
   pub row : p .row < 192
   pub offset : p .offset < 256
-  pub left : p .left < 256
-  pub right : p .right < 256
 
 pub record UlaLineBounds (u : UlaLine) : Type 0 where
   pub view : ViewBounds (u .view)
   pub colours : MaskBounds (u .colours)
 
--- the parts of a state that its ULA dots are drawn from, in a state whose other parts are those of a reset
-abbrev pub shownState : Ula → Palette → Ports → ℕ → List ℕ → List ℕ → List ℕ → List ℕ → State
-shownState u p ports frame clip plus first second = record {
+-- the parts of a state that its ULA dots are drawn from, with the palette shown in both places, in a state whose other parts are
+-- those of a reset
+abbrev pub shownState : Ula → Palette → Ports → ℕ → List ℕ → List ℕ → List ℕ → State
+shownState u p ports frame clip plus pal = record {
   ula = u;
   tiles = resetState .tiles;
   palette = p;
@@ -33,8 +32,8 @@ shownState u p ports frame clip plus first second = record {
   ulaclip = clip;
   tileclip = resetState .tileclip;
   plus = plus;
-  ulafirst = first;
-  ulasecond = second;
+  ulafirst = pal;
+  ulasecond = pal;
   tilefirst = resetState .tilefirst;
   tilesecond = resetState .tilesecond;
 }

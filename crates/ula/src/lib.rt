@@ -4,7 +4,6 @@ mod cells;
 mod rows;
 mod views;
 
-pub use rows::paint;
 pub use rows::ula_row;
 pub use views::UlaLine;
 pub use views::View;

@@ -1,10 +1,9 @@
-// The rows of the display in each mode, the clip over them, and the 640 dots of a line.
+// The rows of the display in each mode, and the 640 dots of a line.
 ghost use mathlib.Core.Path.{_≡_};
 ghost use mathlib.Core.Bool.{true};
-ghost use Prim.Native.Nat.{ℕ, _*_, _/_, _<_, _≤_};
-ghost use lib.ListN.{length, getD};
+ghost use Prim.Native.Nat.{ℕ, _/_, _<_, _≤_};
+ghost use lib.ListN.{length};
 ghost use Rattle.lists.specs.Tab.{tab};
-ghost use Rattle.surface.specs.Dots.{clipped};
 ghost use Rattle.state.specs.Bounds.{isMask};
 ghost use Rattle.surface.specs.Lines.{isLine};
 ghost use Rattle.ula_attribute.specs.Bounds.{MaskBounds};
@@ -16,7 +15,6 @@ use crate::cells::pixel_cell;
 use crate::views::UlaLine;
 use crate::views::View;
 use crate::views::ula_line;
-use crate::views::ula_palette;
 use lists::usize_of;
 use state::Palette;
 use state::Ports;
@@ -76,29 +74,6 @@ fn lores_row(p: View, l: Colours, pal: &[u16; 256], bank: &[u8], out: &mut [u16]
     }
 }
 
-pub fn paint(v: u16, out: &mut [u16])
-    ensures { λ r. ⌜ now (out .exit) ≡ tab (λ (k : ℕ). v) (length (now (out .entry))) ⌝ }
-{
-    let mut i = 0;
-    while i < out.len() {
-        out[i] = v;
-        i += 1;
-    }
-}
-
-// What lies left of the clip and right of it becomes transparent.
-fn clip_row(left: usize, right: usize, out: &mut [u16])
-    requires { ⌜ (left < 256) × (right < 256) × (length (now out) ≡ 512) ⌝ }
-    ensures { λ r. ⌜ now (out .exit) ≡ tab (λ (d : ℕ). clipped (d / 2) left right (getD (now (out .entry)) d 0)) 512 ⌝ }
-{
-    let start = 0;
-    let first = left * 2;
-    paint(512, &mut out[start..first]);
-    let past = right * 2 + 2;
-    let end = 512;
-    paint(512, &mut out[past..end]);
-}
-
 fn mode_row(p: View, l: Colours, pal: &[u16; 256], plus: &[u8; 64], bank: &[u8], out: &mut [u16])
     requires { ⌜ (ViewBounds p) × (MaskBounds l) × (length (now bank) ≡ 16384) × (length (now out) ≡ 512) ⌝ }
     ensures { λ r. ⌜ now (out .exit) ≡ tab (modeDot p l (now (pal .entry)) (now (plus .entry)) (now (bank .entry))) 512 ⌝ }
@@ -123,9 +98,9 @@ fn display_row(p: View, l: Colours, pal: &[u16; 256], plus: &[u8; 64], bank: &[u
 {
     if p.visible {
         mode_row(p, l, pal, plus, bank, out);
-        clip_row(p.left, p.right, out);
+        surface::clip_dots(p.left, p.right, out);
     } else {
-        paint(512, out);
+        surface::paint(512, out);
     }
 }
 
@@ -140,9 +115,9 @@ fn framed_row(u: UlaLine, pal: &[u16; 256], plus: &[u8; 64], bank: &[u8], out: &
     let a = 64;
     let e = 576;
     let end = 640;
-    paint(u.border, &mut out[start..a]);
+    surface::paint(u.border, &mut out[start..a]);
     display_row(p, l, pal, plus, bank, &mut out[a..e]);
-    paint(u.border, &mut out[e..end]);
+    surface::paint(u.border, &mut out[e..end]);
 }
 
 fn line_row(u: UlaLine, pal: &[u16; 256], plus: &[u8; 64], bank: &[u8], out: &mut [u16])
@@ -153,15 +128,15 @@ fn line_row(u: UlaLine, pal: &[u16; 256], plus: &[u8; 64], bank: &[u8], out: &mu
         if u.display {
             framed_row(u, pal, plus, bank, out);
         } else {
-            paint(u.border, out);
+            surface::paint(u.border, out);
         }
     } else {
-        paint(512, out);
+        surface::paint(512, out);
     }
 }
 
-// The ULA's 640 dots of a line, 512 where transparent, of any state with these parts: a whole state would be copied at each call.
-// The caller has judged the line and the lengths, and a lawful state has such a mask and border.
+// The ULA's 640 dots of a line, 512 where transparent, of any state with these parts and this palette shown: a whole state would be
+// copied at each call. The caller has judged the line and the lengths, and a lawful state has such a mask and border.
 pub fn ula_row<'a>(
     u: Ula,
     p: Palette,
@@ -169,16 +144,14 @@ pub fn ula_row<'a>(
     frame: u8,
     clip: &'a [u8; 4],
     plus: &'a [u8; 64],
-    first: &'a [u16; 256],
-    second: &'a [u16; 256],
+    pal: &[u16; 256],
     bank: &[u8],
     line: LineNumber,
     out: &mut [u16],
 )
     requires { ⌜ (isMask (p .mask) ≡ true) × (ports .border ≤ 7) × (isLine line ≡ true) × (length (now bank) ≡ 16384) × (length (now out) ≡ 640) ⌝ }
-    ensures { λ r. ⌜ now (out .exit) ≡ tab (ulaDot (shownState u p ports frame (now (clip .entry)) (now (plus .entry)) (now (first .entry)) (now (second .entry))) (now (bank .entry)) line) 640 ⌝ }
+    ensures { λ r. ⌜ now (out .exit) ≡ tab (ulaDot (shownState u p ports frame (now (clip .entry)) (now (plus .entry)) (now (pal .entry))) (now (bank .entry)) line) 640 ⌝ }
 {
-    let pal = ula_palette(p, first, second);
     let l = ula_line(u, p, ports, frame, clip, plus, pal, line);
     line_row(l, pal, plus, bank, out);
 }

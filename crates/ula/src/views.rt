@@ -95,7 +95,7 @@ pub fn ula_line(
     line: LineNumber,
 ) -> UlaLine
     requires { ⌜ (isMask (p .mask) ≡ true) × (ports .border ≤ 7) × (isLine line ≡ true) ⌝ }
-    ensures { λ r. ⌜ (r ≡ ulaLine (shownState u p ports frame (now (clip .entry)) (now (plus .entry)) (now (pal .entry)) (now (pal .entry))) (now (pal .entry)) line) × (UlaLineBounds r) ⌝ }
+    ensures { λ r. ⌜ (r ≡ ulaLine (shownState u p ports frame (now (clip .entry)) (now (plus .entry)) (now (pal .entry))) (now (pal .entry)) line) × (UlaLineBounds r) ⌝ }
 {
     let view = view_of(u, ports, clip, surface::display_line(line));
     let colours = ula_attribute::colours_of(u, p, ports, frame);

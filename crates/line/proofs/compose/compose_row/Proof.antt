@@ -1,5 +1,7 @@
 -- The dots of the row, the clip over them, and both composed with the line.
 use Rattle.line.proofs.Layers.{composed-row}
+use mathlib.Core.Path.{ap, _∙_}
+use Rattle.lists.specs.Tab.{tab}
 use borrow.Author.Needs.{needs}
 use Rattle.line.proofs.compose.compose_row.Statement.{statement}
 use Rattle.line.proofs.compose.compose_row.Tie as tie
@@ -30,7 +32,7 @@ returns c = let p = c .before .before in
     let q = p .before .before .before .before in
     let r = q .before .before .before in
     let s = r .before .before .before .before .args in
-    composed-row (s .stencil) (s .row .now) (s .out .now) _ _ _ (s .columns80) (s .skew) (s .left) (s .right) (r .row-dots .ensures) (q .clip-dots .ensures) (p .compose-dots .ensures)
+    composed-row (s .stencil) (s .row .now) (s .out .now) _ _ _ (s .columns80) (s .skew) (s .left) (s .right) (r .row-dots .ensures) (q .clip-dots .ensures ∙ ap (tab _) (search needs)) (p .compose-dots .ensures)
 
 pub compose-row-spec : {M : Type 1} → statement M
 compose-row-spec =

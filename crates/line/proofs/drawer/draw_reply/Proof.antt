@@ -1,6 +1,6 @@
 -- The pieces in their order, taken together from the last.
 use Rattle.line.specs.Replies.{drawReply}
-use Rattle.line.proofs.Exits.{in-order}
+use Rattle.reply.proofs.Order.{last-hit, next-hit}
 use borrow.Author.Needs.{needs}
 use Rattle.line.proofs.drawer.draw_reply.Statement.{statement}
 use Rattle.line.proofs.drawer.draw_reply.Tie as tie
@@ -28,7 +28,8 @@ first-of-requires-3 c κs = search needs
 
 returns : tie.Need-returns
 unfolding drawReply
-returns c = in-order _ _ _ _ _ _ _ _ _ _ _ (c .before .before .before .line-reply .ensures) (c .before .before .lengths-reply .ensures) (c .before .before .before .before .before .before .lawful-reply .ensures) (c .before .before .before .before .before .state-reply .ensures) (c .before .before .before .before .first-of .ensures) (c .before .first-of2 .ensures) (c .first-of3 .ensures)
+returns c = let p = c .before .before .before .before in
+    next-hit _ _ _ _ _ (c .before .before .before .line-reply .ensures) (next-hit _ _ _ _ _ (c .before .before .lengths-reply .ensures) (next-hit _ _ _ _ _ (p .before .before .lawful-reply .ensures) (last-hit _ _ (p .before .state-reply .ensures)) (p .first-of .ensures)) (c .before .first-of2 .ensures)) (c .first-of3 .ensures)
 
 pub draw-reply-spec : {M : Type 1} → statement M
 draw-reply-spec =

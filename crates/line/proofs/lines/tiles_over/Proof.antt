@@ -1,15 +1,10 @@
 -- Each part is what its call ensures.
 use mathlib.Core.Path.{ap, _∙_}
 use Rattle.tilemap.specs.Setup.{setupOf}
-use Rattle.state.specs.Bits.{tileSecondShown}
 use Rattle.line.proofs.Layers.{tiles-of}
-use Rattle.line.proofs.Shaded.{shown-colours}
 use borrow.Author.Needs.{needs}
 use Rattle.line.proofs.lines.tiles_over.Statement.{statement}
 use Rattle.line.proofs.lines.tiles_over.Tie as tie
-
-tile-palette-requires : tie.Need-tile-palette-requires
-tile-palette-requires c κs = search needs
 
 window-of-requires : tie.Need-window-of-requires
 window-of-requires c κs = search needs
@@ -24,23 +19,20 @@ stencil-on-requires : tie.Need-stencil-on-requires
 stencil-on-requires c κs = search needs
 
 layered-requires : tie.Need-layered-requires
-layered-requires c κs = let p = c .before .before .before .before .before in
-    let s = p .before .before .before in
-    (c .before .before .setup-of .ensures .1, shown-colours (tileSecondShown (s .args .t)) _ (s .args .first .now) (s .args .second .now) (p .tile-palette .ensures) (s .pre .3) (s .pre .4), s .pre .5, s .pre .6, s .pre .7)
+layered-requires c κs = search needs
 
 same-length : tie.Need-same-length
 same-length c = search needs
 
 returns : tie.Need-returns
-returns c = let s = c .before .before .before .before .before .before .before .before .before .before .before .args in
-    let l = c .before .before .before .before .before in
-    tiles-of (s .u) (s .t) (s .clip .now) (s .first .now) (s .second .now) (s .bank .now) _ (s .out .now) _ _ _ _ _ (c .before .before .layered .ensures) (l .before .before .before .tile-palette .ensures) (l .setup-of .ensures .0 ∙ ap (setupOf (s .t)) (l .before .ula-on .ensures)) (l .before .before .window-of .ensures) (c .before .before .before .before .stencil-on .ensures)
+returns c = let l = c .before .before .before .before .before in
+    let s = l .before .before .before .before .before .args in
+    tiles-of (s .u) (s .t) (s .clip .now) (s .bank .now) _ (s .out .now) _ _ _ _ _ (c .before .before .layered .ensures) (l .setup-of .ensures .0 ∙ ap (setupOf (s .t)) (l .before .ula-on .ensures)) (l .before .before .window-of .ensures) (c .before .before .before .before .stencil-on .ensures)
 
 pub tiles-over-spec : {M : Type 1} → statement M
 tiles-over-spec =
     tie.close
     (tie.spec
-    tile-palette-requires
     window-of-requires
     ula-on-requires
     setup-of-requires

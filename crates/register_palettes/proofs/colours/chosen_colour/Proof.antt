@@ -7,6 +7,9 @@ use Rattle.register_palettes.proofs.colours.chosen_colour.Tie as tie
 cast-i : tie.Need-cast-i
 cast-i c = search needs
 
+choice-of-requires : tie.Need-choice-of-requires
+choice-of-requires c κs = search needs
+
 mul-result : tie.Need-mul-result
 mul-result c = search needs
 
@@ -32,22 +35,23 @@ element-copy-out-result-4 : tie.Need-element-copy-out-result-4
 element-copy-out-result-4 c = search needs
 
 returns : tie.Need-returns
-returns c = rw (c .before .match .keys1)
+returns c = rw (← c .before .before .choice-of .ensures, c .before .match .keys1)
 
 returns-2 : tie.Need-returns-2
-returns-2 c = rw (c .before .match .keys2)
+returns-2 c = rw (← c .before .before .choice-of .ensures, c .before .match .keys2)
 
 returns-3 : tie.Need-returns-3
-returns-3 c = rw (c .before .match .keys3)
+returns-3 c = rw (← c .before .before .choice-of .ensures, c .before .match .keys3)
 
 returns-4 : tie.Need-returns-4
-returns-4 c = let r = c .before .match .rest in rw (ne-eqb _ _ (r .0 .0 .1), ne-eqb _ _ (r .0 .1), ne-eqb _ _ (r .1))
+returns-4 c = let r = c .before .match .rest in rw (← c .before .before .choice-of .ensures, ne-eqb _ _ (r .0 .0 .1), ne-eqb _ _ (r .0 .1), ne-eqb _ _ (r .1))
 
 pub chosen-colour-spec : {M : Type 1} → statement M
 chosen-colour-spec =
     tie.close
     (tie.spec
     cast-i
+    choice-of-requires
     mul-result
     element-copy-out-result
     mul-result-2

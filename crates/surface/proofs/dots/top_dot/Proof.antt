@@ -1,4 +1,4 @@
--- `over` chooses by one test.
+-- `top_dot` chooses by one test.
 use borrow.Author.Tests.{eq-eqb, ne-eqb}
 use Rattle.surface.specs.Dots.{topDot}
 use Rattle.surface.proofs.dots.top_dot.Statement.{statement}

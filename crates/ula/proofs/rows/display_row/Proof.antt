@@ -10,8 +10,8 @@ use Rattle.ula.proofs.rows.display_row.Tie as tie
 mode-row-requires : tie.Need-mode-row-requires
 mode-row-requires c κs = search needs
 
-clip-row-requires : tie.Need-clip-row-requires
-clip-row-requires c κs = search needs
+clip-dots-requires : tie.Need-clip-dots-requires
+clip-dots-requires c κs = search needs
 
 paint-requires : tie.Need-paint-requires
 paint-requires c κs = search needs
@@ -21,7 +21,7 @@ same-length c = search needs
 
 returns : tie.Need-returns
 returns c = let b = c .before .before .before .before .before .before in
-    c .before .before .clip-row .ensures ∙ shows-clipped _ _ _ _ _ _ (b .before .before .if1 .taken) (b .mode-row .ensures)
+    c .before .before .clip-dots .ensures ∙ ap (tab _) (search needs) ∙ shows-clipped _ _ _ _ _ _ (b .before .before .if1 .taken) (b .mode-row .ensures)
 
 same-length-2 : tie.Need-same-length-2
 same-length-2 c = search needs
@@ -34,7 +34,7 @@ display-row-spec =
     tie.close
     (tie.spec
     mode-row-requires
-    clip-row-requires
+    clip-dots-requires
     paint-requires
     same-length
     returns

@@ -1,11 +1,8 @@
--- The dots of what the line shows, in the state's palette.
+-- The dots of what the line shows, in the palette lent.
 use Rattle.ula.proofs.Parts.{dots-of}
 use borrow.Author.Needs.{needs}
 use Rattle.ula.proofs.rows.ula_row.Statement.{statement}
 use Rattle.ula.proofs.rows.ula_row.Tie as tie
-
-ula-palette-requires : tie.Need-ula-palette-requires
-ula-palette-requires c κs = search needs
 
 ula-line-requires : tie.Need-ula-line-requires
 ula-line-requires c κs = search needs
@@ -18,10 +15,10 @@ same-length c = search needs
 
 returns : tie.Need-returns
 returns c = let l = c .before .before .before .before in
-    let s = l .before .before .before .before .args in
-    dots-of (s .u) (s .p) (s .ports) (s .frame) (s .clip .now) (s .plus .now) (s .first .now) (s .second .now) _ _ _ _ _ (c .before .before .line-row .ensures) (l .ula-line .ensures .0) (l .before .ula-palette .ensures)
+    let s = l .before .before .before .args in
+    dots-of (s .u) (s .p) (s .ports) (s .frame) (s .clip .now) (s .plus .now) (s .bank .now) (s .pal .now) _ _ _ (c .before .before .line-row .ensures) (l .ula-line .ensures .0)
 
 pub ula-row-spec : {M : Type 1} → statement M
 ula-row-spec =
     tie.close
-    (tie.spec ula-palette-requires ula-line-requires line-row-requires same-length returns)
+    (tie.spec ula-line-requires line-row-requires same-length returns)

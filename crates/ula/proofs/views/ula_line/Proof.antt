@@ -30,7 +30,7 @@ in-display-requires c κs = search needs
 returns : tie.Need-returns
 returns c = let b = c .before .before .before in
     let s = b .before .before .before .args in (
-      line-of (shownState (s .u) (s .p) (s .ports) (s .frame) (s .clip .now) (s .plus .now) (s .pal .now) (s .pal .now)) _ _ _ _ _ _ _ (c .before .ula-on .ensures) (c .in-display .ensures) (c .before .before .border-of .ensures)
+      line-of (shownState (s .u) (s .p) (s .ports) (s .frame) (s .clip .now) (s .plus .now) (s .pal .now)) _ _ _ _ _ _ _ (c .before .ula-on .ensures) (c .in-display .ensures) (c .before .before .border-of .ensures)
           (b .before .view-of .ensures .0 ∙ ap (viewOf (s .u) (s .ports) (s .clip .now)) (b .before .before .display-line .ensures)) (b .colours-of .ensures .0),
       record { view = b .before .view-of .ensures .1; colours = b .colours-of .ensures .1 },
     )

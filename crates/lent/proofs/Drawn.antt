@@ -1,0 +1,151 @@
+-- Drawing by a lent record: the palettes shown stand at their places, the line from the parts is that of the state in the record, and
+-- the two exits of the call. `stored` is the reply to the record, `early` what refuses before the state is judged.
+use Prim.Native.Nat.{ℕ}
+use mathlib.Core.Path.{_≡_, refl, sym, ap, ap₂, _∙_}
+use mathlib.Core.List.{List, [], _∷_}
+use mathlib.Core.Bool.{Bool, true, false, cond}
+use lib.ListN.{length, getD}
+use Rattle.lists.specs.Tab.{tab}
+use Rattle.reply.specs.declared.Reply.{Reply}
+use Rattle.reply.specs.declared.Reply.the-variants.{Done}
+use Rattle.reply.specs.Reply.{isDone}
+use Rattle.reply.specs.First.{firstHit}
+use Rattle.reply.proofs.Order.{all-done, last-hit, hit-later, hit-early}
+use Rattle.state.specs.Bits.{ulaOn, ulaSecondShown, tileSecondShown, tilemapOn}
+use Rattle.state.specs.Lawful.{allColours}
+use Rattle.state.proofs.Kept.{lawful-kept}
+use Rattle.state.specs.declared.State.{State}
+use Rattle.state.specs.declared.Answer.{Answer}
+use Rattle.state.specs.declared.Palette.{Palette}
+use Rattle.state.specs.declared.Tiles.{Tiles}
+use Rattle.surface.specs.Lines.{isLine}
+use Rattle.surface.specs.declared.lines.LineNumber.{LineNumber}
+use Rattle.colour.specs.Bytes.{widened}
+use Rattle.ula.specs.Views.{ulaPalette}
+use Rattle.ula.specs.Display.{ulaDot}
+use Rattle.ula.specs.Bounds.{shownState}
+use Rattle.ula.proofs.Parts.{shown-dots}
+use Rattle.tilemap.specs.Dots.{tileDot}
+use Rattle.tilemap.specs.Setup.{setupOf, windowOf}
+use Rattle.record_layout.specs.Fields.{pair, rowAt}
+use Rattle.record_layout.specs.Places.{ulaFirstPlace, ulaSecondPlace, tileFirstPlace, tileSecondPlace}
+use Rattle.record_layout.specs.Record.{stateAs, stateIn, readRecord}
+use Rattle.record_layout.proofs.RoundTrip.{long, answer, state-lawful}
+use Rattle.line.specs.Lines.{tilePalette, stencilOn, tileDotOf, composedLine, finished, drawnLine}
+use Rattle.line.specs.Replies.{lineReply, lengthsReply, stateReply, drawnIf}
+use Rattle.line.specs.Compose.{composed}
+use Rattle.line.specs.Shown.{shownOf, ShownBounds}
+use Rattle.line.specs.declared.parts.Shown.{Shown}
+use Rattle.line.proofs.Bounded.{bounded}
+use Rattle.line.proofs.Exits.{line-met, lengths-met, left}
+use Rattle.line.proofs.Shaded.{shown-colours}
+use Rattle.line.proofs.Layers.{layered-line, finished-line}
+use Rattle.line.proofs.Shown.{line-without}
+use Rattle.lent.specs.Bounds.{RecordBounds, tilesLaid}
+use Rattle.lent.specs.Drawn.{lentDrawReply, lentDrawn}
+
+chosen : (b : List ℕ) (second : Bool) (x y : ℕ) → rowAt pair 256 b (cond second x y) ≡ cond second (rowAt pair 256 b x) (rowAt pair 256 b y)
+chosen b true x y = refl
+chosen b false x y = refl
+
+-- the palettes shown, by the places where they stand
+module _ (b pal : List ℕ) (place : ℕ) (e : pal ≡ rowAt pair 256 b place) where
+  pub ula-palette-read : (p : Palette) → p ≡ stateIn b .palette → place ≡ cond (ulaSecondShown p) ulaSecondPlace ulaFirstPlace → pal ≡ ulaPalette (stateIn b)
+  unfolding ulaPalette stateAs
+  ula-palette-read p ep h =
+      e ∙ ap (rowAt pair 256 b) (h ∙ ap (λ (x : Palette). cond (ulaSecondShown x) ulaSecondPlace ulaFirstPlace) ep)
+      ∙ chosen b (ulaSecondShown (stateIn b .palette)) ulaSecondPlace ulaFirstPlace
+
+  pub tile-palette-read : (t : Tiles) → t ≡ stateIn b .tiles → place ≡ cond (tileSecondShown t) tileSecondPlace tileFirstPlace → pal ≡ tilePalette (stateIn b)
+  unfolding tilePalette stateAs
+  tile-palette-read t et h =
+      e ∙ ap (rowAt pair 256 b) (h ∙ ap (λ (x : Tiles). cond (tileSecondShown x) tileSecondPlace tileFirstPlace) et)
+      ∙ chosen b (tileSecondShown (stateIn b .tiles)) tileSecondPlace tileFirstPlace
+
+-- the layers of a record that is judged: what each asks for, and what it lays
+module _ (b : List ℕ) (v : Shown) (g : RecordBounds b) (e : v ≡ shownOf (stateIn b)) where
+  pub bounds-shown : ShownBounds v (tilePalette (stateIn b))
+  bounds-shown = rw e (bounded (stateIn b) (g .lawful))
+
+  pub tile-colours : (pal : List ℕ) → pal ≡ tilePalette (stateIn b) → allColours pal ≡ true
+  unfolding tilePalette
+  tile-colours pal ep =
+      let s = stateIn b in
+      let k = lawful-kept s (g .lawful) in
+      shown-colours (tileSecondShown (s .tiles)) pal (s .tilefirst) (s .tilesecond) ep (k .tilefirst) (k .tilesecond)
+
+  pub ula-laid : (bank : List ℕ) (line : LineNumber) (pal out : List ℕ) → pal ≡ ulaPalette (stateIn b)
+      → out ≡ tab (ulaDot (shownState (v .ula) (v .palette) (v .ports) (v .frame) (v .ulaclip) (v .plus) pal) bank line) 640
+      → out ≡ tab (ulaDot (stateIn b) bank line) 640
+  ula-laid bank line pal out ep d =
+      d
+      ∙ ap (λ (w : Shown). tab (ulaDot (shownState (w .ula) (w .palette) (w .ports) (w .frame) (w .ulaclip) (w .plus) pal) bank line) 640) e
+      ∙ ap (λ (f : ℕ → ℕ). tab f 640) (shown-dots (stateIn b) pal bank line ep)
+
+  pub tiles-laid : (bank : List ℕ) (line : LineNumber) (pal old out : List ℕ) → pal ≡ tilePalette (stateIn b)
+      → out ≡ tab (λ (k : ℕ). composed (stencilOn (v .ula) (v .tiles)) pal (getD old k 0)
+      (tileDot (windowOf (v .tiles) (v .tileclip) line) (setupOf (v .tiles) (ulaOn (v .ula))) (v .tiles .transparent) bank (line .0) k)) 640
+      → out ≡ tilesLaid (stateIn b) bank line old
+  unfolding tileDotOf
+  tiles-laid bank line pal old out ep d =
+      d
+      ∙ ap₂ (λ (w : Shown) (p : List ℕ). tab (λ (k : ℕ). composed (stencilOn (w .ula) (w .tiles)) p (getD old k 0)
+      (tileDot (windowOf (w .tiles) (w .tileclip) line) (setupOf (w .tiles) (ulaOn (w .ula))) (w .tiles .transparent) bank (line .0) k)) 640) e ep
+
+  off : tilemapOn (v .tiles) ≡ false → tilemapOn (stateIn b .tiles) ≡ false
+  off o = sym (ap (λ (w : Shown). tilemapOn (w .tiles)) e) ∙ o
+
+  module _ (ula tile : List ℕ) (line : LineNumber) where
+    pub layers-on : (u out : List ℕ) → u ≡ tab (ulaDot (stateIn b) ula line) 640 → out ≡ tilesLaid (stateIn b) tile line u → out ≡ composedLine (stateIn b) ula tile line
+    layers-on u out eu d = layered-line (stateIn b) line ula tile u out eu d
+
+    pub layers-off : (u : List ℕ) → u ≡ tab (ulaDot (stateIn b) ula line) 640 → tilemapOn (v .tiles) ≡ false → u ≡ composedLine (stateIn b) ula tile line
+    layers-off u eu o = eu ∙ line-without ula tile line (stateIn b) (off o)
+
+    pub line-laid : (row out : List ℕ) (fallback : ℕ) → row ≡ composedLine (stateIn b) ula tile line → fallback ≡ widened (v .ula .fallback) → out ≡ finished fallback row
+        → out ≡ drawnLine (stateIn b) ula tile line
+    line-laid row out fallback er ef d =
+        finished-line (stateIn b) line ula tile row out fallback d er (ef ∙ ap (λ (w : Shown). widened (w .ula .fallback)) e)
+
+module _ (line : LineNumber) (ula tile dots b : List ℕ) (stored : Reply) (h : stored ≡ readRecord b .reply) (early : Reply)
+    (e : early ≡ firstHit (lineReply line ∷ lengthsReply (length ula) (length tile) (length dots) ∷ stored ∷ [])) where
+  abbrev pieces : List Reply
+  pieces = lineReply line ∷ lengthsReply (length ula) (length tile) (length dots) ∷ readRecord b .reply ∷ []
+
+  early-is : early ≡ firstHit pieces
+  early-is = e ∙ ap (λ (r : Reply). firstHit (lineReply line ∷ lengthsReply (length ula) (length tile) (length dots) ∷ r ∷ [])) h
+
+  -- what a drawing has met that is not refused early
+  pub met : early ≡ Done → (RecordBounds b) × (isLine line ≡ true) × (length ula ≡ 16384) × (length tile ≡ 16384) × (length dots ≡ 640)
+  met z =
+      let m = all-done pieces (sym early-is ∙ z) in
+      let q = lengths-met (length ula) (length tile) (length dots) (m .1 .0) in
+      let r = m .1 .1 .0 in
+      (record { long = long b r; lawful = state-lawful b r }, line-met line (m .0), q .0, q .1, q .2)
+
+  state-is : early ≡ Done → readRecord b .state ≡ stateIn b
+  state-is z = ap (λ (a : Answer). a .state) (answer b (all-done pieces (sym early-is ∙ z) .1 .1 .0))
+
+  abbrev alone : State → Reply
+  alone s = stateReply (s .ula) (s .tiles) (s .palette) (s .ports)
+
+  reply-is : early ≡ Done → lentDrawReply line (length ula) (length tile) (length dots) b ≡ alone (stateIn b)
+  unfolding lentDrawReply
+  reply-is z =
+      hit-later pieces (alone (readRecord b .state) ∷ []) (sym early-is ∙ z)
+      ∙ sym (last-hit (alone (readRecord b .state)) (alone (readRecord b .state)) refl) ∙ ap alone (state-is z)
+
+  -- the record and the lengths are good: the drawing's own answer
+  pub drawn-judged : (r : Reply) (after : List ℕ) → early ≡ Done → r ≡ alone (stateIn b) → after ≡ drawnIf r (drawnLine (stateIn b) ula tile line) dots
+      → (r ≡ lentDrawReply line (length ula) (length tile) (length dots) b) × (after ≡ lentDrawn line ula tile dots b)
+  unfolding lentDrawn
+  drawn-judged r after z q d =
+      let t = q ∙ sym (reply-is z) in
+      (t, d ∙ ap₂ (λ (x : Reply) (s : State). drawnIf x (drawnLine s ula tile line) dots) t (sym (state-is z)))
+
+  -- refused early: the line as it was
+  pub undrawn : isDone early ≡ false → (early ≡ lentDrawReply line (length ula) (length tile) (length dots) b) × (dots ≡ lentDrawn line ula tile dots b)
+  unfolding lentDrawReply lentDrawn
+  undrawn z =
+      let t : lentDrawReply line (length ula) (length tile) (length dots) b ≡ early = hit-early pieces (alone (readRecord b .state) ∷ []) (ap isDone (sym early-is) ∙ z) ∙ sym early-is in
+      (sym t, left early (lentDrawReply line (length ula) (length tile) (length dots) b) (drawnLine (readRecord b .state) ula tile line) dots (sym t) z)

@@ -1,0 +1,74 @@
+-- The exits of the calls on a lent record, each once over the call that it makes: `read` is what reading the record answered.
+use Prim.Native.Nat.{ℕ}
+use mathlib.Core.Path.{_≡_, sym, ap, _∙_}
+use mathlib.Core.List.{List}
+use mathlib.Core.Bool.{true, false}
+use lib.ListN.{length}
+use borrow.Author.Tests.{eq-eqb, ne-eqb}
+use Rattle.lists.proofs.Cond.{if-true, if-false}
+use Rattle.reply.specs.declared.Reply.{Reply}
+use Rattle.reply.specs.Reply.{replyNumber, isDone}
+use Rattle.reply.proofs.Done.{is-done}
+use Rattle.state.specs.declared.State.{State}
+use Rattle.state.specs.declared.Answer.{Answer}
+use Rattle.state.specs.Lawful.{lawfulState}
+use Rattle.register_answers.specs.declared.Reading.{Reading}
+use Rattle.register_answers.specs.Answers.{unread}
+use Rattle.record_layout.specs.Record.{recordLength, recordOf, readRecord}
+use Rattle.record_layout.proofs.RoundTrip.{long, answer, state-lawful}
+use Rattle.lent.specs.Lent.{lentAnswer, lentAfter, lentReading}
+
+-- a number that is 0, or is not, tells whether its reply is done
+pub done-is : (n : ℕ) (r : Reply) → n ≡ replyNumber r → n ≡ 0 → isDone r ≡ true
+done-is n r e z = eq-eqb _ _ (sym e ∙ z)
+
+pub not-done : (n : ℕ) (r : Reply) → n ≡ replyNumber r → (n ≡ 0 → ⊥) → isDone r ≡ false
+not-done n r e z = ne-eqb _ _ (λ q. z (e ∙ q))
+
+-- the lent record after an answer that is done, and after a refusal
+pub stored : (b : List ℕ) (a : Answer) → isDone (a .reply) ≡ true → recordOf (a .state) ≡ lentAfter b a
+unfolding lentAfter
+stored b a d = sym (if-true _ _ _ d)
+
+pub left : (b : List ℕ) (a : Answer) → isDone (a .reply) ≡ false → b ≡ lentAfter b a
+unfolding lentAfter
+left b a d = sym (if-false _ _ _ d)
+
+module _ (b : List ℕ) (read : Answer) (h : read ≡ readRecord b) where
+  reply-is : read .reply ≡ readRecord b .reply
+  reply-is = ap (λ (a : Answer). a .reply) h
+
+  pub read-lawful : isDone (read .reply) ≡ true → lawfulState (read .state) ≡ true
+  read-lawful d =
+      let r = is-done (readRecord b .reply) (ap isDone (sym reply-is) ∙ d) in
+      ap (λ (a : Answer). lawfulState (a .state)) (h ∙ answer b r) ∙ state-lawful b r
+
+  pub read-long : isDone (read .reply) ≡ true → length b ≡ recordLength
+  read-long d = long b (is-done (readRecord b .reply) (ap isDone (sym reply-is) ∙ d))
+
+  -- a record that is read: the call's own answer
+  pub answered : (call : State → Answer) (a : Answer) → isDone (read .reply) ≡ true → a ≡ call (read .state) → a ≡ lentAnswer call b
+  unfolding lentAnswer
+  answered call a d q = q ∙ ap (λ (x : Answer). call (x .state)) h ∙ sym (if-true _ _ _ (ap isDone (sym reply-is) ∙ d))
+
+  -- a record that is refused: its refusal, and the bytes as they were
+  pub unchanged : (call : State → Answer) → isDone (read .reply) ≡ false
+      → (read .reply ≡ lentAnswer call b .reply) × (b ≡ lentAfter b (lentAnswer call b))
+  unfolding lentAnswer
+  unchanged call d =
+      let e : readRecord b ≡ lentAnswer call b = sym (if-false _ _ _ (ap isDone (sym reply-is) ∙ d)) in
+      let f : read .reply ≡ lentAnswer call b .reply = reply-is ∙ ap (λ (a : Answer). a .reply) e in
+      (f, left b (lentAnswer call b) (ap isDone (sym f) ∙ d))
+
+  pub told : (call : State → Reading) (a : Reading) → isDone (read .reply) ≡ true → a ≡ call (read .state) → a ≡ lentReading call b
+  unfolding lentReading
+  told call a d q = q ∙ ap (λ (x : Answer). call (x .state)) h ∙ sym (if-true _ _ _ (ap isDone (sym reply-is) ∙ d))
+
+  pub untold : (call : State → Reading) → isDone (read .reply) ≡ false → unread (read .reply) ≡ lentReading call b
+  unfolding lentReading
+  untold call d = ap unread reply-is ∙ sym (if-false _ _ _ (ap isDone (sym reply-is) ∙ d))
+
+-- the two results of a change whose answer is a
+pub changed-by : (call : State → Answer) (b : List ℕ) (a : Answer) (after : List ℕ) → a ≡ lentAnswer call b → after ≡ lentAfter b a
+    → (a .reply ≡ lentAnswer call b .reply) × (after ≡ lentAfter b (lentAnswer call b))
+changed-by call b a after q p = (ap (λ (x : Answer). x .reply) q, p ∙ ap (lentAfter b) q)

@@ -1,0 +1,50 @@
+-- What the state alone is refused for is the answer; a line that is not refused is drawn.
+use mathlib.Core.Path.{refl, ap, _∙_}
+use Rattle.line.specs.Replies.{stateReply}
+use Rattle.line.specs.declared.parts.Shown.{Shown}
+use Rattle.line.proofs.Exits.{drawn, left}
+use Rattle.lent.proofs.Exits.{done-is, not-done}
+use borrow.Author.Needs.{needs}
+use Rattle.lent.proofs.drawing.draw_judged.Statement.{statement}
+use Rattle.lent.proofs.drawing.draw_judged.Tie as tie
+
+shown-at-requires : tie.Need-shown-at-requires
+shown-at-requires c κs = search needs
+
+state-reply-requires : tie.Need-state-reply-requires
+state-reply-requires c κs = search needs
+
+number-requires : tie.Need-number-requires
+number-requires c κs = search needs
+
+draw-line-requires : tie.Need-draw-line-requires
+draw-line-requires c κs = search needs
+
+same-length : tie.Need-same-length
+same-length c = search needs
+
+returns : tie.Need-returns
+returns c =
+    let r = c .before .before .before .before .before .before .state-reply in (
+      r .ensures ∙ ap (λ (v : Shown). stateReply (v .ula) (v .tiles) (v .palette) (v .ports)) (c .before .before .before .before .before .before .before .shown-at .ensures),
+      drawn _ _ _ _ _ refl (done-is (c .before .before .before .before .before .number .result) (r .result) (c .before .before .before .before .before .number .ensures) (c .before .before .before .before .if1 .taken)) (c .before .before .draw-line .ensures),
+    )
+
+returns-2 : tie.Need-returns-2
+returns-2 c =
+    let r = c .before .before .state-reply in (
+      r .ensures ∙ ap (λ (v : Shown). stateReply (v .ula) (v .tiles) (v .palette) (v .ports)) (c .before .before .before .shown-at .ensures),
+      left _ _ _ _ refl (not-done (c .before .number .result) (r .result) (c .before .number .ensures) (c .if1 .left)),
+    )
+
+pub draw-judged-spec : {M : Type 1} → statement M
+draw-judged-spec =
+    tie.close
+    (tie.spec
+    shown-at-requires
+    state-reply-requires
+    number-requires
+    draw-line-requires
+    same-length
+    returns
+    returns-2)

@@ -1,0 +1,23 @@
+-- What a lent record has shown once it is judged, and a line whose tile dots are laid; no part of what a drawing is.
+use mathlib.Core.Path.{_≡_}
+use mathlib.Core.Bool.{true}
+use mathlib.Core.List.{List}
+use Prim.Native.Nat.{ℕ}
+use lib.ListN.{length, getD}
+use Rattle.lists.specs.Tab.{tab}
+use Rattle.state.specs.declared.State.{State}
+use Rattle.state.specs.Lawful.{lawfulState}
+use Rattle.surface.specs.declared.lines.LineNumber.{LineNumber}
+use Rattle.line.specs.Compose.{composed}
+use Rattle.line.specs.Lines.{stencilOn, tilePalette, tileDotOf}
+use Rattle.record_layout.specs.Record.{recordLength, stateIn}
+
+-- as many bytes as a record has, and a lawful state in them
+pub record RecordBounds (b : List ℕ) : Type 0 where
+  pub long : length b ≡ recordLength
+  pub lawful : lawfulState (stateIn b) ≡ true
+
+-- the tile dots of a state composed with the ULA's in a row
+abbrev pub tilesLaid : State → List ℕ → LineNumber → List ℕ → List ℕ
+tilesLaid s bank line row =
+    tab (λ (k : ℕ). composed (stencilOn (s .ula) (s .tiles)) (tilePalette s) (getD row k 0) (tileDotOf s bank line k)) 640

@@ -1,0 +1,35 @@
+-- A state lent as its record: 13 stands in the place of 4, and a refusal changes no lent byte.
+use mathlib.Core.List.{List}
+use mathlib.Core.Bool.{cond}
+use Prim.Native.Nat.{ℕ}
+use lib.ListN.{length}
+use lib.Dec.{eqb}
+use Rattle.reply.specs.declared.Reply.{Reply}
+use Rattle.reply.specs.declared.Reply.the-variants.{Done, BufferLength}
+use Rattle.reply.specs.Reply.{isDone}
+use Rattle.state.specs.declared.State.{State}
+use Rattle.state.specs.declared.Answer.{Answer}
+use Rattle.state.specs.Reset.{resetState}
+use Rattle.register_answers.specs.declared.Reading.{Reading}
+use Rattle.register_answers.specs.Answers.{unread}
+use Rattle.record_layout.specs.Record.{recordLength, recordOf, readRecord}
+
+-- what a call that changes a state answers on the state in a lent record, or the refusal of the record
+unfoldable pub lentAnswer : (State → Answer) → List ℕ → Answer
+lentAnswer call b = cond (isDone (readRecord b .reply)) (call (readRecord b .state)) (readRecord b)
+
+-- the lent record after an answer: the record of the answer's state, or as it was where the answer is a refusal
+unfoldable pub lentAfter : List ℕ → Answer → List ℕ
+lentAfter b a = cond (isDone (a .reply)) (recordOf (a .state)) b
+
+-- what a read answers on the state in a lent record, or the refusal of the record and 0
+unfoldable pub lentReading : (State → Reading) → List ℕ → Reading
+lentReading call b = cond (isDone (readRecord b .reply)) (call (readRecord b .state)) (unread (readRecord b .reply))
+
+-- reset: 3
+abbrev pub resetReply : List ℕ → Reply
+resetReply b = cond (eqb (length b) recordLength) Done BufferLength
+
+-- and the bytes afterwards
+abbrev pub resetIn : List ℕ → List ℕ
+resetIn b = cond (eqb (length b) recordLength) (recordOf resetState) b

@@ -1,0 +1,5 @@
+pub mod Calls
+pub mod Lent
+pub mod Drawn
+pub mod Bounds
+pub mod Claims

@@ -1,0 +1,182 @@
+// Drawing from a lent record: what a line shows of it is read where it stands, and no whole state is made.
+ghost use mathlib.Core.Path.{_≡_};
+ghost use mathlib.Core.Bool.{true, cond};
+ghost use mathlib.Core.List.{[], _∷_};
+ghost use Prim.Native.Nat.{_≤_};
+ghost use lib.ListN.{length};
+ghost use Rattle.lists.specs.Tab.{tab};
+ghost use Rattle.reply.specs.First.{firstHit};
+ghost use Rattle.state.specs.Bits.{ulaSecondShown, tileSecondShown};
+ghost use Rattle.surface.specs.Lines.{isLine};
+ghost use Rattle.record_layout.specs.Places.{ulaFirstPlace, ulaSecondPlace, tileFirstPlace, tileSecondPlace};
+ghost use Rattle.record_layout.specs.Record.{recordLength, stateIn};
+ghost use Rattle.ula.specs.Views.{ulaPalette};
+ghost use Rattle.ula.specs.Display.{ulaDot};
+ghost use Rattle.line.specs.Lines.{tilePalette, composedLine, drawnLine};
+ghost use Rattle.line.specs.Replies.{lineReply, lengthsReply, stateReply, drawnIf};
+ghost use Rattle.line.specs.Shown.{shownOf};
+ghost use Rattle.lent.specs.Drawn.{lentDrawReply, lentDrawn};
+ghost use Rattle.lent.specs.Bounds.{RecordBounds, tilesLaid};
+use line::Shown;
+use record_parts::places;
+use reply::Reply;
+use reply::first_of;
+use reply::number;
+use state::Palette;
+use state::Tiles;
+use surface::LineNumber;
+
+// What a line shows of the state in a record, but the palettes.
+fn shown_at(bytes: &[u8]) -> Shown
+    requires { ⌜ length (now bytes) ≡ recordLength ⌝ }
+    ensures { λ r. ⌜ r ≡ shownOf (stateIn (now (bytes .entry))) ⌝ }
+{
+    let ula = record_parts::ula_at(bytes);
+    let palette = record_parts::palette_at(bytes);
+    let tiles = record_parts::tiles_at(bytes);
+    let ports = record_parts::ports_at(bytes);
+    let frame = bytes[places::FRAME];
+    let ulaclip = record_parts::clip_at(bytes, places::ULA_CLIP);
+    let tileclip = record_parts::clip_at(bytes, places::TILE_CLIP);
+    let plus = record_parts::plus_at(bytes);
+    Shown {
+        ula,
+        palette,
+        tiles,
+        ports,
+        frame,
+        ulaclip,
+        tileclip,
+        plus,
+    }
+}
+
+// Where the ULA palette shown stands.
+fn ula_place(p: Palette) -> usize
+    ensures { λ r. ⌜ (r ≡ cond (ulaSecondShown p) ulaSecondPlace ulaFirstPlace) × (r ≤ tileSecondPlace) ⌝ }
+{
+    if state::ula_second_shown(p) {
+        places::ULA_SECOND
+    } else {
+        places::ULA_FIRST
+    }
+}
+
+// Where the tilemap palette shown stands.
+fn tile_place(t: Tiles) -> usize
+    ensures { λ r. ⌜ (r ≡ cond (tileSecondShown t) tileSecondPlace tileFirstPlace) × (r ≤ tileSecondPlace) ⌝ }
+{
+    if state::tile_second_shown(t) {
+        places::TILE_SECOND
+    } else {
+        places::TILE_FIRST
+    }
+}
+
+// The ULA palette shown.
+fn ula_palette_at(bytes: &[u8], p: Palette) -> [u16; 256]
+    requires { ⌜ (length (now bytes) ≡ recordLength) × (p ≡ stateIn (now bytes) .palette) ⌝ }
+    ensures { λ r. ⌜ r ≡ ulaPalette (stateIn (now (bytes .entry))) ⌝ }
+{
+    record_parts::colours_at(bytes, ula_place(p))
+}
+
+// The tilemap palette shown.
+fn tile_palette_at(bytes: &[u8], t: Tiles) -> [u16; 256]
+    requires { ⌜ (length (now bytes) ≡ recordLength) × (t ≡ stateIn (now bytes) .tiles) ⌝ }
+    ensures { λ r. ⌜ r ≡ tilePalette (stateIn (now (bytes .entry))) ⌝ }
+{
+    record_parts::colours_at(bytes, tile_place(t))
+}
+
+// The ULA's dots of a line.
+fn lay_ula(bytes: &[u8], v: Shown, bank: &[u8], line: LineNumber, dots: &mut [u16])
+    requires { ⌜ (RecordBounds (now bytes)) × (v ≡ shownOf (stateIn (now bytes))) × (isLine line ≡ true) × (length (now bank) ≡ 16384) × (length (now dots) ≡ 640) ⌝ }
+    ensures { λ _. ⌜ now (dots .exit) ≡ tab (ulaDot (stateIn (now (bytes .entry))) (now (bank .entry)) line) 640 ⌝ }
+{
+    let pal = ula_palette_at(bytes, v.palette);
+    ula::ula_row(
+        v.ula,
+        v.palette,
+        v.ports,
+        v.frame,
+        &v.ulaclip,
+        &v.plus,
+        &pal,
+        bank,
+        line,
+        dots,
+    );
+}
+
+// The tilemap's dots composed with the ULA's in dots.
+fn lay_tiles(bytes: &[u8], v: Shown, bank: &[u8], line: LineNumber, dots: &mut [u16])
+    requires { ⌜ (RecordBounds (now bytes)) × (v ≡ shownOf (stateIn (now bytes))) × (isLine line ≡ true) × (length (now bank) ≡ 16384) × (length (now dots) ≡ 640) ⌝ }
+    ensures { λ _. ⌜ now (dots .exit) ≡ tilesLaid (stateIn (now (bytes .entry))) (now (bank .entry)) line (now (dots .entry)) ⌝ }
+{
+    let pal = tile_palette_at(bytes, v.tiles);
+    line::tiles_over(v.ula, v.tiles, &v.tileclip, &pal, bank, line, dots);
+}
+
+// The composed line, by the layers of `line`. Where the tilemap is off its palette is not read, as one call with both palettes would
+// have to.
+fn lay_layers(bytes: &[u8], v: Shown, ula: &[u8], tile: &[u8], line: LineNumber, dots: &mut [u16])
+    requires { ⌜ (RecordBounds (now bytes)) × (v ≡ shownOf (stateIn (now bytes))) × (isLine line ≡ true) × (length (now ula) ≡ 16384) × (length (now tile) ≡ 16384) × (length (now dots) ≡ 640) ⌝ }
+    ensures { λ _. ⌜ now (dots .exit) ≡ composedLine (stateIn (now (bytes .entry))) (now (ula .entry)) (now (tile .entry)) line ⌝ }
+{
+    lay_ula(bytes, v, ula, line, dots);
+    if state::tilemap_on(v.tiles) {
+        lay_tiles(bytes, v, tile, line, dots);
+    }
+}
+
+// The finished line of a record that is judged.
+fn draw_line(bytes: &[u8], v: Shown, ula: &[u8], tile: &[u8], line: LineNumber, dots: &mut [u16])
+    requires { ⌜ (RecordBounds (now bytes)) × (v ≡ shownOf (stateIn (now bytes))) × (isLine line ≡ true) × (length (now ula) ≡ 16384) × (length (now tile) ≡ 16384) × (length (now dots) ≡ 640) ⌝ }
+    ensures { λ _. ⌜ now (dots .exit) ≡ drawnLine (stateIn (now (bytes .entry))) (now (ula .entry)) (now (tile .entry)) line ⌝ }
+{
+    lay_layers(bytes, v, ula, tile, line, dots);
+    line::finish_line(colour::widen(v.ula.fallback), dots);
+}
+
+// The line of a record that is judged, or what the state in it is refused for.
+fn draw_judged(bytes: &[u8], ula: &[u8], tile: &[u8], line: LineNumber, dots: &mut [u16]) -> Reply
+    requires { ⌜ (RecordBounds (now bytes)) × (isLine line ≡ true) × (length (now ula) ≡ 16384) × (length (now tile) ≡ 16384) × (length (now dots) ≡ 640) ⌝ }
+    ensures { λ r. ⌜ (r ≡ stateReply (stateIn (now (bytes .entry)) .ula) (stateIn (now (bytes .entry)) .tiles) (stateIn (now (bytes .entry)) .palette) (stateIn (now (bytes .entry)) .ports))
+        × (now (dots .exit) ≡ drawnIf r (drawnLine (stateIn (now (bytes .entry))) (now (ula .entry)) (now (tile .entry)) line) (now (dots .entry))) ⌝ }
+{
+    let v = shown_at(bytes);
+    let r = line::state_reply(v.ula, v.tiles, v.palette, v.ports);
+    if number(r) == 0 {
+        draw_line(bytes, v, ula, tile, line, dots);
+    }
+    r
+}
+
+// What refuses a drawing before the state in the record is judged: the line, the lengths, the record.
+fn early_reply(line: LineNumber, ula: usize, tile: usize, dots: usize, stored: Reply) -> Reply
+    ensures { λ r. ⌜ r ≡ firstHit (lineReply line ∷ lengthsReply ula tile dots ∷ stored ∷ []) ⌝ }
+{
+    let lengths = line::lengths_reply(ula, tile, dots);
+    first_of(line::line_reply(line), first_of(lengths, stored))
+}
+
+// The 640 dots of a line of the state in a record, or the reply that refuses it and leaves the lent line.
+pub fn draw_record(
+    bytes: &[u8],
+    ula: &[u8],
+    tile: &[u8],
+    line: LineNumber,
+    dots: &mut [u16],
+) -> Reply
+    ensures { λ r. ⌜ (r ≡ lentDrawReply line (length (now (ula .entry))) (length (now (tile .entry))) (length (now (dots .entry))) (now (bytes .entry)))
+        × (now (dots .exit) ≡ lentDrawn line (now (ula .entry)) (now (tile .entry)) (now (dots .entry)) (now (bytes .entry))) ⌝ }
+{
+    let stored = record::record_reply(bytes);
+    let early = early_reply(line, ula.len(), tile.len(), dots.len(), stored);
+    if number(early) == 0 {
+        draw_judged(bytes, ula, tile, line, dots)
+    } else {
+        early
+    }
+}

@@ -1,0 +1,43 @@
+-- A reply is done exactly where its number is 0. Only `number-done` goes by the cases of a reply; all else goes by it.
+use Prim.Native.Nat.{ℕ}
+use mathlib.Core.Path.{_≡_, refl, ap}
+use mathlib.Core.Bool.{Bool, true, false, cond}
+use native.Mathlib.Omega.{arith}
+use borrow.Author.Tests.{eqb-true}
+use Rattle.reply.specs.Reply.{replyNumber, isDone}
+use Rattle.reply.specs.declared.Reply.{Reply}
+use Rattle.reply.specs.declared.Reply.the-variants.{Done, NoLine, BankLength, BufferLength, NotLawful, NoMode, LoresWithTiles, NextWithPlus, FarOffset, NoRegister, OutOfBounds, TooManyTiles, PackingBounds, NotRecord}
+
+pub number-done : (r : Reply) → replyNumber r ≡ 0 → r ≡ Done
+number-done Done e = refl
+number-done NoLine e = absurd (omega arith)
+number-done BankLength e = absurd (omega arith)
+number-done BufferLength e = absurd (omega arith)
+number-done NotLawful e = absurd (omega arith)
+number-done NoMode e = absurd (omega arith)
+number-done LoresWithTiles e = absurd (omega arith)
+number-done NextWithPlus e = absurd (omega arith)
+number-done FarOffset e = absurd (omega arith)
+number-done NoRegister e = absurd (omega arith)
+number-done OutOfBounds e = absurd (omega arith)
+number-done TooManyTiles e = absurd (omega arith)
+number-done PackingBounds e = absurd (omega arith)
+number-done NotRecord e = absurd (omega arith)
+
+pub done-number : (r : Reply) → r ≡ Done → replyNumber r ≡ 0
+done-number r e = ap replyNumber e
+
+pub is-done : (r : Reply) → isDone r ≡ true → r ≡ Done
+is-done r e = number-done r (eqb-true (replyNumber r) 0 e)
+
+-- what refuses is not done
+pub refused : (r : Reply) → isDone r ≡ false → r ≡ Done → ⊥
+refused r e d =
+    let h : isDone r ≡ true = ap isDone d in
+    let z : _≡_ {A = ℕ} 0 1 = cc in
+    omega arith
+
+-- a piece of one test is done where the test holds
+pub test-met : (b : Bool) (q r : Reply) → isDone r ≡ false → cond b q r ≡ Done → (b ≡ true) × (q ≡ Done)
+test-met true q r e d = (refl, d)
+test-met false q r e d = absurd (refused r e d)
