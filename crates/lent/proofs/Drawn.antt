@@ -1,6 +1,7 @@
 -- Drawing by a lent record: the palettes shown stand at their places, the line from the parts is that of the state in the record, and
 -- the two exits of the call. `stored` is the reply to the record, `early` what refuses before the state is judged.
-use Prim.Native.Nat.{ℕ}
+use Prim.Native.Nat.{ℕ, _≤_, _<_}
+use borrow.Author.Tests.{leb-true, ltb-true}
 use mathlib.Core.Path.{_≡_, refl, sym, ap, ap₂, _∙_}
 use mathlib.Core.List.{List, [], _∷_}
 use mathlib.Core.Bool.{Bool, true, false, cond}
@@ -18,6 +19,9 @@ use Rattle.state.specs.declared.State.{State}
 use Rattle.state.specs.declared.Answer.{Answer}
 use Rattle.state.specs.declared.Palette.{Palette}
 use Rattle.state.specs.declared.Tiles.{Tiles}
+use Rattle.state.specs.declared.Ula.{Ula}
+use Rattle.state.specs.declared.Ports.{Ports}
+use Rattle.state.specs.Bounds.{isMask}
 use Rattle.surface.specs.Lines.{isLine}
 use Rattle.surface.specs.declared.lines.LineNumber.{LineNumber}
 use Rattle.colour.specs.Bytes.{widened}
@@ -34,9 +38,6 @@ use Rattle.record_layout.proofs.RoundTrip.{long, answer, state-lawful}
 use Rattle.line.specs.Lines.{tilePalette, stencilOn, tileDotOf, composedLine, finished, drawnLine}
 use Rattle.line.specs.Replies.{lineReply, lengthsReply, stateReply, drawnIf}
 use Rattle.line.specs.Compose.{composed}
-use Rattle.line.specs.Shown.{shownOf, ShownBounds}
-use Rattle.line.specs.declared.parts.Shown.{Shown}
-use Rattle.line.proofs.Bounded.{bounded}
 use Rattle.line.proofs.Exits.{line-met, lengths-met, left}
 use Rattle.line.proofs.Shaded.{shown-colours}
 use Rattle.line.proofs.Layers.{layered-line, finished-line}
@@ -63,9 +64,18 @@ module _ (b pal : List ℕ) (place : ℕ) (e : pal ≡ rowAt pair 256 b place) w
       ∙ chosen b (tileSecondShown (stateIn b .tiles)) tileSecondPlace tileFirstPlace
 
 -- the layers of a record that is judged: what each asks for, and what it lays
-module _ (b : List ℕ) (v : Shown) (g : RecordBounds b) (e : v ≡ shownOf (stateIn b)) where
-  pub bounds-shown : ShownBounds v (tilePalette (stateIn b))
-  bounds-shown = rw e (bounded (stateIn b) (g .lawful))
+module _ (b : List ℕ) (g : RecordBounds b) where
+  pub mask-read : (p : Palette) → p ≡ stateIn b .palette → isMask (p .mask) ≡ true
+  mask-read p ep = rw ep (lawful-kept (stateIn b) (g .lawful) .mask)
+
+  pub border-read : (o : Ports) → o ≡ stateIn b .ports → o .border ≤ 7
+  border-read o eo = rw eo (leb-true (stateIn b .ports .border) 7 (lawful-kept (stateIn b) (g .lawful) .border))
+
+  pub tiles-read : (t : Tiles) → t ≡ stateIn b .tiles → (t .xhigh ≤ 3) × (t .map < 64) × (t .definitions < 64)
+  tiles-read t et =
+      let k = lawful-kept (stateIn b) (g .lawful) in
+      let s = stateIn b .tiles in
+      rw et (leb-true (s .xhigh) 3 (k .xhigh), ltb-true (s .map) 64 (k .map), ltb-true (s .definitions) 64 (k .definitions))
 
   pub tile-colours : (pal : List ℕ) → pal ≡ tilePalette (stateIn b) → allColours pal ≡ true
   unfolding tilePalette
@@ -74,38 +84,36 @@ module _ (b : List ℕ) (v : Shown) (g : RecordBounds b) (e : v ≡ shownOf (sta
       let k = lawful-kept s (g .lawful) in
       shown-colours (tileSecondShown (s .tiles)) pal (s .tilefirst) (s .tilesecond) ep (k .tilefirst) (k .tilesecond)
 
-  pub ula-laid : (bank : List ℕ) (line : LineNumber) (pal out : List ℕ) → pal ≡ ulaPalette (stateIn b)
-      → out ≡ tab (ulaDot (shownState (v .ula) (v .palette) (v .ports) (v .frame) (v .ulaclip) (v .plus) pal) bank line) 640
-      → out ≡ tab (ulaDot (stateIn b) bank line) 640
-  ula-laid bank line pal out ep d =
-      d
-      ∙ ap (λ (w : Shown). tab (ulaDot (shownState (w .ula) (w .palette) (w .ports) (w .frame) (w .ulaclip) (w .plus) pal) bank line) 640) e
-      ∙ ap (λ (f : ℕ → ℕ). tab f 640) (shown-dots (stateIn b) pal bank line ep)
+module _ (b bank : List ℕ) (line : LineNumber) where
+  pub ula-laid : (u : Ula) (p : Palette) (o : Ports) (frame : ℕ) (clip plus pal out : List ℕ) → u ≡ stateIn b .ula → p ≡ stateIn b .palette → o ≡ stateIn b .ports
+      → frame ≡ stateIn b .frame → clip ≡ stateIn b .ulaclip → plus ≡ stateIn b .plus → pal ≡ ulaPalette (stateIn b)
+      → out ≡ tab (ulaDot (shownState u p o frame clip plus pal) bank line) 640 → out ≡ tab (ulaDot (stateIn b) bank line) 640
+  ula-laid u p o frame clip plus pal out eu ep eo ef ec es el d =
+      d ∙ rw (eu, ep, eo, ef, ec, es) (ap (λ (f : ℕ → ℕ). tab f 640) (shown-dots (stateIn b) pal bank line el))
 
-  pub tiles-laid : (bank : List ℕ) (line : LineNumber) (pal old out : List ℕ) → pal ≡ tilePalette (stateIn b)
-      → out ≡ tab (λ (k : ℕ). composed (stencilOn (v .ula) (v .tiles)) pal (getD old k 0)
-      (tileDot (windowOf (v .tiles) (v .tileclip) line) (setupOf (v .tiles) (ulaOn (v .ula))) (v .tiles .transparent) bank (line .0) k)) 640
+  pub tiles-laid : (u : Ula) (t : Tiles) (clip pal old out : List ℕ) → u ≡ stateIn b .ula → t ≡ stateIn b .tiles → clip ≡ stateIn b .tileclip → pal ≡ tilePalette (stateIn b)
+      → out ≡ tab (λ (k : ℕ). composed (stencilOn u t) pal (getD old k 0) (tileDot (windowOf t clip line) (setupOf t (ulaOn u)) (t .transparent) bank (line .0) k)) 640
       → out ≡ tilesLaid (stateIn b) bank line old
   unfolding tileDotOf
-  tiles-laid bank line pal old out ep d =
-      d
-      ∙ ap₂ (λ (w : Shown) (p : List ℕ). tab (λ (k : ℕ). composed (stencilOn (w .ula) (w .tiles)) p (getD old k 0)
-      (tileDot (windowOf (w .tiles) (w .tileclip) line) (setupOf (w .tiles) (ulaOn (w .ula))) (w .tiles .transparent) bank (line .0) k)) 640) e ep
+  tiles-laid u t clip pal old out eu et ec el d = d ∙ rw (eu, et, ec, el)
 
-  off : tilemapOn (v .tiles) ≡ false → tilemapOn (stateIn b .tiles) ≡ false
-  off o = sym (ap (λ (w : Shown). tilemapOn (w .tiles)) e) ∙ o
+-- the layers joined, and the fallback over them
+module _ (b ula tile : List ℕ) (line : LineNumber) where
+  pub layers-on : (u out : List ℕ) → u ≡ tab (ulaDot (stateIn b) ula line) 640 → out ≡ tilesLaid (stateIn b) tile line u → out ≡ composedLine (stateIn b) ula tile line
+  layers-on u out eu d = layered-line (stateIn b) line ula tile u out eu d
 
-  module _ (ula tile : List ℕ) (line : LineNumber) where
-    pub layers-on : (u out : List ℕ) → u ≡ tab (ulaDot (stateIn b) ula line) 640 → out ≡ tilesLaid (stateIn b) tile line u → out ≡ composedLine (stateIn b) ula tile line
-    layers-on u out eu d = layered-line (stateIn b) line ula tile u out eu d
+  pub layers-off : (u : List ℕ) (t : Tiles) → u ≡ tab (ulaDot (stateIn b) ula line) 640 → t ≡ stateIn b .tiles → tilemapOn t ≡ false → u ≡ composedLine (stateIn b) ula tile line
+  layers-off u t eu et o = eu ∙ line-without ula tile line (stateIn b) (sym (ap tilemapOn et) ∙ o)
 
-    pub layers-off : (u : List ℕ) → u ≡ tab (ulaDot (stateIn b) ula line) 640 → tilemapOn (v .tiles) ≡ false → u ≡ composedLine (stateIn b) ula tile line
-    layers-off u eu o = eu ∙ line-without ula tile line (stateIn b) (off o)
+  pub line-laid : (row out : List ℕ) (u : Ula) (fallback : ℕ) → row ≡ composedLine (stateIn b) ula tile line → u ≡ stateIn b .ula → fallback ≡ widened (u .fallback)
+      → out ≡ finished fallback row → out ≡ drawnLine (stateIn b) ula tile line
+  line-laid row out u fallback er eu ef d =
+      finished-line (stateIn b) line ula tile row out fallback d er (ef ∙ ap (λ (x : Ula). widened (x .fallback)) eu)
 
-    pub line-laid : (row out : List ℕ) (fallback : ℕ) → row ≡ composedLine (stateIn b) ula tile line → fallback ≡ widened (v .ula .fallback) → out ≡ finished fallback row
-        → out ≡ drawnLine (stateIn b) ula tile line
-    line-laid row out fallback er ef d =
-        finished-line (stateIn b) line ula tile row out fallback d er (ef ∙ ap (λ (w : Shown). widened (w .ula .fallback)) e)
+-- what the state in a record is refused for, from its groups
+pub state-reply-read : (b : List ℕ) (u : Ula) (t : Tiles) (p : Palette) (o : Ports) (r : Reply) → u ≡ stateIn b .ula → t ≡ stateIn b .tiles → p ≡ stateIn b .palette
+    → o ≡ stateIn b .ports → r ≡ stateReply u t p o → r ≡ stateReply (stateIn b .ula) (stateIn b .tiles) (stateIn b .palette) (stateIn b .ports)
+state-reply-read b u t p o r eu et ep eo e = e ∙ rw (eu, et, ep, eo)
 
 module _ (line : LineNumber) (ula tile dots b : List ℕ) (stored : Reply) (h : stored ≡ readRecord b .reply) (early : Reply)
     (e : early ≡ firstHit (lineReply line ∷ lengthsReply (length ula) (length tile) (length dots) ∷ stored ∷ [])) where

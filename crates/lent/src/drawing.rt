@@ -9,15 +9,12 @@ ghost use Rattle.reply.specs.First.{firstHit};
 ghost use Rattle.state.specs.Bits.{ulaSecondShown, tileSecondShown};
 ghost use Rattle.surface.specs.Lines.{isLine};
 ghost use Rattle.record_layout.specs.Places.{ulaFirstPlace, ulaSecondPlace, tileFirstPlace, tileSecondPlace};
-ghost use Rattle.record_layout.specs.Record.{recordLength, stateIn};
-ghost use Rattle.ula.specs.Views.{ulaPalette};
+ghost use Rattle.record_layout.specs.Record.{stateIn};
 ghost use Rattle.ula.specs.Display.{ulaDot};
-ghost use Rattle.line.specs.Lines.{tilePalette, composedLine, drawnLine};
+ghost use Rattle.line.specs.Lines.{composedLine, drawnLine};
 ghost use Rattle.line.specs.Replies.{lineReply, lengthsReply, stateReply, drawnIf};
-ghost use Rattle.line.specs.Shown.{shownOf};
 ghost use Rattle.lent.specs.Drawn.{lentDrawReply, lentDrawn};
 ghost use Rattle.lent.specs.Bounds.{RecordBounds, tilesLaid};
-use line::Shown;
 use record_parts::places;
 use reply::Reply;
 use reply::first_of;
@@ -25,31 +22,6 @@ use reply::number;
 use state::Palette;
 use state::Tiles;
 use surface::LineNumber;
-
-// What a line shows of the state in a record, but the palettes.
-fn shown_at(bytes: &[u8]) -> Shown
-    requires { ⌜ length (now bytes) ≡ recordLength ⌝ }
-    ensures { λ r. ⌜ r ≡ shownOf (stateIn (now (bytes .entry))) ⌝ }
-{
-    let ula = record_parts::ula_at(bytes);
-    let palette = record_parts::palette_at(bytes);
-    let tiles = record_parts::tiles_at(bytes);
-    let ports = record_parts::ports_at(bytes);
-    let frame = bytes[places::FRAME];
-    let ulaclip = record_parts::clip_at(bytes, places::ULA_CLIP);
-    let tileclip = record_parts::clip_at(bytes, places::TILE_CLIP);
-    let plus = record_parts::plus_at(bytes);
-    Shown {
-        ula,
-        palette,
-        tiles,
-        ports,
-        frame,
-        ulaclip,
-        tileclip,
-        plus,
-    }
-}
 
 // Where the ULA palette shown stands.
 fn ula_place(p: Palette) -> usize
@@ -73,70 +45,54 @@ fn tile_place(t: Tiles) -> usize
     }
 }
 
-// The ULA palette shown.
-fn ula_palette_at(bytes: &[u8], p: Palette) -> [u16; 256]
-    requires { ⌜ (length (now bytes) ≡ recordLength) × (p ≡ stateIn (now bytes) .palette) ⌝ }
-    ensures { λ r. ⌜ r ≡ ulaPalette (stateIn (now (bytes .entry))) ⌝ }
-{
-    record_parts::colours_at(bytes, ula_place(p))
-}
-
-// The tilemap palette shown.
-fn tile_palette_at(bytes: &[u8], t: Tiles) -> [u16; 256]
-    requires { ⌜ (length (now bytes) ≡ recordLength) × (t ≡ stateIn (now bytes) .tiles) ⌝ }
-    ensures { λ r. ⌜ r ≡ tilePalette (stateIn (now (bytes .entry))) ⌝ }
-{
-    record_parts::colours_at(bytes, tile_place(t))
-}
-
 // The ULA's dots of a line.
-fn lay_ula(bytes: &[u8], v: Shown, bank: &[u8], line: LineNumber, dots: &mut [u16])
-    requires { ⌜ (RecordBounds (now bytes)) × (v ≡ shownOf (stateIn (now bytes))) × (isLine line ≡ true) × (length (now bank) ≡ 16384) × (length (now dots) ≡ 640) ⌝ }
+fn lay_ula(bytes: &[u8], bank: &[u8], line: LineNumber, dots: &mut [u16])
+    requires { ⌜ (RecordBounds (now bytes)) × (isLine line ≡ true) × (length (now bank) ≡ 16384) × (length (now dots) ≡ 640) ⌝ }
     ensures { λ _. ⌜ now (dots .exit) ≡ tab (ulaDot (stateIn (now (bytes .entry))) (now (bank .entry)) line) 640 ⌝ }
 {
-    let pal = ula_palette_at(bytes, v.palette);
-    ula::ula_row(
-        v.ula,
-        v.palette,
-        v.ports,
-        v.frame,
-        &v.ulaclip,
-        &v.plus,
-        &pal,
-        bank,
-        line,
-        dots,
-    );
+    let u = record_parts::ula_at(bytes);
+    let p = record_parts::palette_at(bytes);
+    let ports = record_parts::ports_at(bytes);
+    let frame = bytes[places::FRAME];
+    let clip = record_parts::clip_at(bytes, places::ULA_CLIP);
+    let plus = record_parts::plus_at(bytes);
+    let pal = record_parts::colours_at(bytes, ula_place(p));
+    ula::ula_row(u, p, ports, frame, &clip, &plus, &pal, bank, line, dots);
 }
 
 // The tilemap's dots composed with the ULA's in dots.
-fn lay_tiles(bytes: &[u8], v: Shown, bank: &[u8], line: LineNumber, dots: &mut [u16])
-    requires { ⌜ (RecordBounds (now bytes)) × (v ≡ shownOf (stateIn (now bytes))) × (isLine line ≡ true) × (length (now bank) ≡ 16384) × (length (now dots) ≡ 640) ⌝ }
+fn lay_tiles(bytes: &[u8], bank: &[u8], line: LineNumber, dots: &mut [u16])
+    requires { ⌜ (RecordBounds (now bytes)) × (isLine line ≡ true) × (length (now bank) ≡ 16384) × (length (now dots) ≡ 640) ⌝ }
     ensures { λ _. ⌜ now (dots .exit) ≡ tilesLaid (stateIn (now (bytes .entry))) (now (bank .entry)) line (now (dots .entry)) ⌝ }
 {
-    let pal = tile_palette_at(bytes, v.tiles);
-    line::tiles_over(v.ula, v.tiles, &v.tileclip, &pal, bank, line, dots);
+    let u = record_parts::ula_at(bytes);
+    let t = record_parts::tiles_at(bytes);
+    let clip = record_parts::clip_at(bytes, places::TILE_CLIP);
+    let pal = record_parts::colours_at(bytes, tile_place(t));
+    line::tiles_over(u, t, &clip, &pal, bank, line, dots);
 }
 
 // The composed line, by the layers of `line`. Where the tilemap is off its palette is not read, as one call with both palettes would
 // have to.
-fn lay_layers(bytes: &[u8], v: Shown, ula: &[u8], tile: &[u8], line: LineNumber, dots: &mut [u16])
-    requires { ⌜ (RecordBounds (now bytes)) × (v ≡ shownOf (stateIn (now bytes))) × (isLine line ≡ true) × (length (now ula) ≡ 16384) × (length (now tile) ≡ 16384) × (length (now dots) ≡ 640) ⌝ }
+fn lay_layers(bytes: &[u8], ula: &[u8], tile: &[u8], line: LineNumber, dots: &mut [u16])
+    requires { ⌜ (RecordBounds (now bytes)) × (isLine line ≡ true) × (length (now ula) ≡ 16384) × (length (now tile) ≡ 16384) × (length (now dots) ≡ 640) ⌝ }
     ensures { λ _. ⌜ now (dots .exit) ≡ composedLine (stateIn (now (bytes .entry))) (now (ula .entry)) (now (tile .entry)) line ⌝ }
 {
-    lay_ula(bytes, v, ula, line, dots);
-    if state::tilemap_on(v.tiles) {
-        lay_tiles(bytes, v, tile, line, dots);
+    lay_ula(bytes, ula, line, dots);
+    let t = record_parts::tiles_at(bytes);
+    if state::tilemap_on(t) {
+        lay_tiles(bytes, tile, line, dots);
     }
 }
 
 // The finished line of a record that is judged.
-fn draw_line(bytes: &[u8], v: Shown, ula: &[u8], tile: &[u8], line: LineNumber, dots: &mut [u16])
-    requires { ⌜ (RecordBounds (now bytes)) × (v ≡ shownOf (stateIn (now bytes))) × (isLine line ≡ true) × (length (now ula) ≡ 16384) × (length (now tile) ≡ 16384) × (length (now dots) ≡ 640) ⌝ }
+fn draw_line(bytes: &[u8], ula: &[u8], tile: &[u8], line: LineNumber, dots: &mut [u16])
+    requires { ⌜ (RecordBounds (now bytes)) × (isLine line ≡ true) × (length (now ula) ≡ 16384) × (length (now tile) ≡ 16384) × (length (now dots) ≡ 640) ⌝ }
     ensures { λ _. ⌜ now (dots .exit) ≡ drawnLine (stateIn (now (bytes .entry))) (now (ula .entry)) (now (tile .entry)) line ⌝ }
 {
-    lay_layers(bytes, v, ula, tile, line, dots);
-    line::finish_line(colour::widen(v.ula.fallback), dots);
+    lay_layers(bytes, ula, tile, line, dots);
+    let u = record_parts::ula_at(bytes);
+    line::finish_line(colour::widen(u.fallback), dots);
 }
 
 // The line of a record that is judged, or what the state in it is refused for.
@@ -145,10 +101,13 @@ fn draw_judged(bytes: &[u8], ula: &[u8], tile: &[u8], line: LineNumber, dots: &m
     ensures { λ r. ⌜ (r ≡ stateReply (stateIn (now (bytes .entry)) .ula) (stateIn (now (bytes .entry)) .tiles) (stateIn (now (bytes .entry)) .palette) (stateIn (now (bytes .entry)) .ports))
         × (now (dots .exit) ≡ drawnIf r (drawnLine (stateIn (now (bytes .entry))) (now (ula .entry)) (now (tile .entry)) line) (now (dots .entry))) ⌝ }
 {
-    let v = shown_at(bytes);
-    let r = line::state_reply(v.ula, v.tiles, v.palette, v.ports);
+    let u = record_parts::ula_at(bytes);
+    let t = record_parts::tiles_at(bytes);
+    let p = record_parts::palette_at(bytes);
+    let ports = record_parts::ports_at(bytes);
+    let r = line::state_reply(u, t, p, ports);
     if number(r) == 0 {
-        draw_line(bytes, v, ula, tile, line, dots);
+        draw_line(bytes, ula, tile, line, dots);
     }
     r
 }

@@ -1,4 +1,4 @@
--- The fallback over the composed line.
+-- The fallback over the composed line is the line of the state in the record.
 use Rattle.lent.proofs.Drawn.{line-laid}
 use borrow.Author.Needs.{needs}
 use Rattle.lent.proofs.drawing.draw_line.Statement.{statement}
@@ -6,6 +6,9 @@ use Rattle.lent.proofs.drawing.draw_line.Tie as tie
 
 lay-layers-requires : tie.Need-lay-layers-requires
 lay-layers-requires c κs = search needs
+
+ula-at-requires : tie.Need-ula-at-requires
+ula-at-requires c κs = search needs
 
 widen-requires : tie.Need-widen-requires
 widen-requires c κs = search needs
@@ -18,11 +21,17 @@ same-length c = search needs
 
 returns : tie.Need-returns
 returns c =
-    let s = c .before .before .before .before .before .before .before .before .before .before .before .before .before in
-    let a = s .args in
-    line-laid (a .bytes .now) (a .v) (s .pre .0) (s .pre .1) (a .ula .now) (a .tile .now) (a .line) _ _ _ (c .before .before .before .before .before .before .before .lay-layers .ensures) (c .before .before .before .before .widen .ensures) (c .before .before .finish-line .ensures)
+    let a = c .before .before .before .before .before .before .before .before .before .before .before .before .before .before .args in
+    let u = c .before .before .before .before .before .ula-at in
+    line-laid (a .bytes .now) (a .ula .now) (a .tile .now) (a .line) _ _ (u .result) _ (c .before .before .before .before .before .before .before .before .lay-layers .ensures) (u .ensures) (c .before .before .before .before .widen .ensures) (c .before .before .finish-line .ensures)
 
 pub draw-line-spec : {M : Type 1} → statement M
 draw-line-spec =
     tie.close
-    (tie.spec lay-layers-requires widen-requires finish-line-requires same-length returns)
+    (tie.spec
+    lay-layers-requires
+    ula-at-requires
+    widen-requires
+    finish-line-requires
+    same-length
+    returns)
