@@ -1,7 +1,7 @@
 // The calls that change a lent record.
 ghost use mathlib.Core.Path.{_≡_};
 ghost use Rattle.reply.specs.Reply.{replyNumber};
-ghost use Rattle.state.specs.Frame.{nextFrame};
+ghost use Rattle.frame.specs.Frame.{nextFrame};
 ghost use Rattle.registers.specs.Registers.{writeRegister, writePort};
 ghost use Rattle.lent.specs.Lent.{lentAnswer, lentAfter, resetReply, resetIn};
 use lent::Change;

@@ -17,7 +17,7 @@ use Rattle.state.specs.declared.Answer.{Answer}
 use Rattle.state.specs.Answer.{done}
 use Rattle.state.specs.Lawful.{lawfulState}
 use Rattle.state.specs.Typed.{Typed}
-use Rattle.state.proofs.Claims.{frameLawful, frame-done}
+use Rattle.frame.proofs.Claims.{frameLawful, frame-done}
 use Rattle.surface.specs.declared.lines.LineNumber.{LineNumber}
 use Rattle.surface.specs.Lines.{isLine}
 use Rattle.register_answers.specs.declared.Reading.{Reading}

@@ -21,7 +21,7 @@ use Rattle.state.specs.declared.Palette.{Palette}
 use Rattle.state.specs.declared.Tiles.{Tiles}
 use Rattle.state.specs.declared.Ula.{Ula}
 use Rattle.state.specs.declared.Ports.{Ports}
-use Rattle.state.specs.Bounds.{isMask}
+use Rattle.register_bounds.specs.Bounds.{isMask}
 use Rattle.surface.specs.Lines.{isLine}
 use Rattle.surface.specs.declared.lines.LineNumber.{LineNumber}
 use Rattle.colour.specs.Bytes.{widened}

@@ -2,7 +2,7 @@
 use Prim.Native.Nat.{_<_}
 use Rattle.state.specs.declared.State.{State}
 use Rattle.state.specs.declared.Answer.{Answer}
-use Rattle.state.specs.Frame.{nextFrame}
+use Rattle.frame.specs.Frame.{nextFrame}
 use Rattle.register_answers.specs.declared.Reading.{Reading}
 use Rattle.registers.specs.Registers.{writeRegister, writePort, readRegister, readPort}
 use Rattle.lent.specs.declared.changes.Change.{Change}

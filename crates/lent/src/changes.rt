@@ -25,8 +25,8 @@ fn apply(s: State, c: Change) -> Answer
     ensures { λ r. ⌜ r ≡ changed c s ⌝ }
 {
     match c {
-        Change::NextFrame => accept(state::advance(s)),
-        Change::Register(n, v) => registers::write_numbered(s, n, v),
+        Change::NextFrame => accept(frame::advance(s)),
+        Change::Register(n, v) => register_tables::write_numbered(s, n, v),
         Change::Port(n, v) => register_ports::write_at(s, n, v),
     }
 }

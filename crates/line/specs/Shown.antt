@@ -5,7 +5,7 @@ use mathlib.Core.Path.{_≡_}
 use mathlib.Core.List.{List}
 use mathlib.Core.Bool.{true}
 use Rattle.state.specs.Bits.{tilemapOn}
-use Rattle.state.specs.Bounds.{isMask}
+use Rattle.register_bounds.specs.Bounds.{isMask}
 use Rattle.state.specs.Lawful.{allColours}
 use Rattle.state.specs.Reset.{resetState}
 use Rattle.state.specs.declared.State.{State}

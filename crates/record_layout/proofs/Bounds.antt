@@ -10,7 +10,7 @@ use Rattle.lists.specs.Tab.{tab}
 use Rattle.lists.proofs.Cond.{left-true, right-true, and-assoc}
 use Rattle.lists.proofs.Chain.{chain, chain-apart, chain-join}
 use Rattle.lists.proofs.Search.{below}
-use Rattle.state.specs.Bounds.{colourFits}
+use Rattle.register_bounds.specs.Bounds.{colourFits}
 use Rattle.state.specs.Lawful.{allColours, lawfulState}
 use Rattle.state.proofs.Kept.{Kept, lawful-kept, kept-lawful}
 use Rattle.record_layout.specs.Fields.{pair, fieldSize, fieldAt}

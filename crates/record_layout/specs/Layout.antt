@@ -4,7 +4,7 @@ use mathlib.Core.List.{List, [], _∷_}
 use mathlib.Core.Bool.{Bool, true}
 use lib.Dec.{leb, eqb}
 use Rattle.state.specs.declared.State.{State}
-use Rattle.state.specs.Bounds.{ulaYFits, isMask, isChoice, halfFits, tileTransparentFits, ulaControlFits, tileControlFits, xHighFits, baseFits, turnFits, borderFits, selectFits, colourFits}
+use Rattle.register_bounds.specs.Bounds.{ulaYFits, isMask, isChoice, halfFits, tileTransparentFits, ulaControlFits, tileControlFits, xHighFits, baseFits, turnFits, borderFits, selectFits, colourFits}
 use Rattle.state.specs.With.{stateOf}
 use Rattle.record_layout.specs.Fields.{byte, pair, flagByte}
 use Rattle.record_layout.specs.Parts.{Part, one, row, FromParts}

@@ -2,7 +2,12 @@
 ghost use mathlib.Core.Path.{_≡_};
 ghost use Rattle.reply.specs.declared.Reply.the-variants.{NoRegister};
 ghost use Rattle.state.specs.Answer.{done, refused};
-ghost use Rattle.register_answers.specs.Answers.{ifFits, given, unread};
+ghost use Rattle.register_answers.specs.Answers.{ifFits};
+
+mod reads;
+
+pub use reads::give;
+pub use reads::no_read;
 use reply::Reply;
 use state::Answer;
 use state::State;
@@ -36,15 +41,6 @@ pub fn if_fits(ok: bool, changed: State, s: State) -> Answer
     }
 }
 
-pub fn give(value: u8) -> Reading
-    ensures { λ r. ⌜ r ≡ given value ⌝ }
-{
-    Reading {
-        reply: Reply::Done,
-        value,
-    }
-}
-
 // Reply 9 to a write.
 pub fn no_write(s: State) -> Answer
     ensures { λ r. ⌜ r ≡ refused NoRegister s ⌝ }
@@ -52,15 +48,5 @@ pub fn no_write(s: State) -> Answer
     Answer {
         reply: Reply::NoRegister,
         state: s,
-    }
-}
-
-// Reply 9 to a read.
-pub fn no_read() -> Reading
-    ensures { λ r. ⌜ r ≡ unread NoRegister ⌝ }
-{
-    Reading {
-        reply: Reply::NoRegister,
-        value: 0,
     }
 }

@@ -13,7 +13,8 @@ use Rattle.state.specs.Lawful.{lawfulState}
 use Rattle.register_answers.specs.Answers.{ifFits, unread, writeLawful}
 use Rattle.register_answers.specs.Rows.{writeBy, readBy}
 use Rattle.register_ports.specs.Ports.{portWrites, portReads}
-use Rattle.registers.specs.Registers.{registerWrites, registerReads, writeRegister, writePort, readRegister, readPort}
+use Rattle.register_tables.specs.Tables.{registerWrites, registerReads}
+use Rattle.registers.specs.Registers.{writeRegister, writePort, readRegister, readPort}
 
 pub write-row : (s : State) (n v : ℕ) → lawfulState s ≡ true → writeRegister s n v ≡ writeBy registerWrites s n v
 unfolding writeRegister

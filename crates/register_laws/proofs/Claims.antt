@@ -7,14 +7,14 @@ use native.Mathlib.Omega.{arith}
 use lib.ListN.{length, getD}
 use lib.Seq.{getD-set-same}
 use lib.Dec.{leb}
-use borrow.Author.Tests.{le-leb, lt-leb, leb-true}
+use borrow.Author.Tests.{le-leb, lt-leb, leb-true, lt-ltb, le-ltb}
 use Rattle.lists.proofs.Cond.{if-true, if-false, either}
-use Rattle.reply.specs.declared.Reply.the-variants.{Done, NotLawful, NoRegister}
+use Rattle.reply.specs.declared.Reply.the-variants.{Done, NotLawful, NoRegister, OutOfBounds}
 use Rattle.state.specs.declared.State.{State}
 use Rattle.state.specs.declared.Answer.{Answer}
 use Rattle.state.specs.Answer.{done, refused}
 use Rattle.state.specs.Bits.{timexOn}
-use Rattle.state.specs.Bounds.{ulaYFits, isMask, isChoice, tileTransparentFits, ulaControlFits, tileControlFits, xHighFits}
+use Rattle.register_bounds.specs.Bounds.{isChoice, selectFits}
 use Rattle.state.specs.Lawful.{lawfulState}
 use Rattle.state.specs.Typed.{Typed}
 use Rattle.state.specs.Groups.{paletteWithHalf, turnsWithUla, turnsWithTiles}
@@ -22,14 +22,16 @@ use Rattle.state.specs.With.{withPalette, withTurns}
 use Rattle.register_answers.specs.Answers.{ifFits, given, writeLawful, unread}
 use Rattle.register_answers.specs.Rows.{WriteRow, writeBy, readBy}
 use Rattle.register_clips.specs.Clips.{ulaClipWritten, tileClipWritten, restarted}
-use Rattle.register_palettes.specs.Palettes.{paletteAt, paletteChoice, colourAt, indexWritten, eightWritten, controlWritten}
+use Rattle.register_colours.specs.Colours.{paletteAt, paletteChoice, colourAt}
+use Rattle.register_palettes.specs.Palettes.{indexWritten, eightWritten, controlWritten}
 use Rattle.register_ports.specs.Ports.{modeGroup, plusWritten, plusRead, portWrites, portReads}
-use Rattle.registers.specs.Registers.{registerWrites, registerReads, writeRegister, writePort, readRegister, readPort}
+use Rattle.register_tables.specs.Tables.{registerWrites, registerReads}
+use Rattle.registers.specs.Registers.{writeRegister, writePort, readRegister, readPort}
 use Rattle.reply.specs.Reply.{replyNumber}
 use Rattle.register_answers.specs.declared.Reading.{Reading}
-use Rattle.register_laws.specs.Claims.{Each, none, _▷_, LawfulStays, RefusedSame, ReadsBack, PortsReadBack, NineTwice, NineOnce, HalfDropped, HalfKept, fourWrites, FourClipWrites, TurnsRestarted, ClipReads, TurnsReads, ColourReads, ModeReads, WriteOnly, NeverFour}
+use Rattle.register_laws.specs.Claims.{Each, none, _▷_, NoneOf, LawfulStays, RefusedSame, NeverFour, Takes, ReadsBack, PortsTake, PortsReadBack, EightOnce, NineOnce, NineTwice, NineRefused, HalfDropped, HalfKept, fourWrites, ClipsTake, FourClipWrites, TurnsRestarted, ClipReads, TurnsReads, ColourReads, ModeReads, WriteOnly, portNumbers, OthersMissing}
 use Rattle.register_laws.proofs.Parts.{Parts, join, split, apart, colour-at, palette-lawful}
-use Rattle.register_laws.proofs.Rows.{Sound, by-rows, NotFour, by-reads}
+use Rattle.register_laws.proofs.Rows.{Sound, by-rows, NotFour, by-reads, readNumbers, no-write-row, no-read-row}
 use Rattle.register_laws.proofs.Effects.{registers-sound, ports-sound, ula-turn, tile-turn, ula-clip, tile-clip}
 use Rattle.register_laws.proofs.Calls.{write-row, port-row, read-row, read-port-row, accepted, if-done}
 use Rattle.register_laws.proofs.Half.{stored-over, lawful-same, registers-same, ports-same}
@@ -98,48 +100,57 @@ neverFour = record {
 -- ---- reading back
 
 module _ (s : State) (v : ℕ) (b : v < 256) (z : Typed s) (h : lawfulState s ≡ true) where
-  back : (n k : ℕ) → (writeBy registerWrites s n v .reply ≡ Done → readBy registerReads (writeBy registerWrites s n v .state) n ≡ given k)
-      → writeRegister s n v .reply ≡ Done → readRegister (writeRegister s n v .state) n ≡ given k
+  -- a row that goes by ok, and whose changed state t reads as k
+  takes : (n k : ℕ) (ok : Bool) (t : State) → writeBy registerWrites s n v ≡ ifFits ok t s → readBy registerReads t n ≡ given k → Takes s n v ok k
   unfolding LawfulStays
-  back n k f d =
-      let w = write-row s n v h in
-      read-row (writeRegister s n v .state) n (lawfulStays .0 s n v b z h .0)
-      ∙ ap (λ (a : Answer). readBy registerReads (a .state) n) w
-      ∙ f (sym (ap (λ (a : Answer). a .reply) w) ∙ d)
-
-  -- a judged row, whose changed state t reads as k
-  judged-back : (n k : ℕ) (ok : Bool) (t : State) → writeBy registerWrites s n v ≡ ifFits ok t s → readBy registerReads t n ≡ given k
-      → writeRegister s n v .reply ≡ Done → readRegister (writeRegister s n v .state) n ≡ given k
-  judged-back n k ok t e g =
-      back n k
-      (λ d. ap (λ (a : Answer). readBy registerReads (a .state) n) e
-      ∙ ap (λ (x : State). readBy registerReads x n) (accepted ok t s (sym (ap (λ (a : Answer). a .reply) e) ∙ d))
-      ∙ g)
+  takes n k ok t e g =
+      let w : writeRegister s n v ≡ ifFits ok t s = write-row s n v h ∙ e in
+      let back : readRegister (writeRegister s n v .state) n ≡ readBy registerReads (writeRegister s n v .state) n =
+      read-row (writeRegister s n v .state) n (lawfulStays .0 s n v b z h .0) in
+      record {
+        inside = λ o.
+            let d : writeRegister s n v ≡ done t = w ∙ if-true ok (done t) (refused OutOfBounds s) o in
+            (ap (λ (a : Answer). a .reply) d, back ∙ ap (λ (a : Answer). readBy registerReads (a .state) n) d ∙ g);
+        outside = λ o. w ∙ if-false ok (done t) (refused OutOfBounds s) o;
+      }
 
 pub readsBack : ReadsBack
 unfolding ReadsBack
 readsBack s v b z h =
-    let plain = back s v b z h in
-    let judged = judged-back s v b z h in
-    plain 0x08 v (λ d. refl)
-    ▷ plain 0x14 v (λ d. refl)
-    ▷ plain 0x15 v (λ d. refl)
-    ▷ judged 0x2F v (xHighFits v) _ refl refl
-    ▷ plain 0x30 v (λ d. refl)
-    ▷ plain 0x31 v (λ d. refl)
-    ▷ plain 0x32 v (λ d. refl)
-    ▷ judged 0x33 v (ulaYFits v) _ refl refl
-    ▷ plain 0x40 v (λ d. refl)
-    ▷ judged 0x42 v (isMask v) _ refl refl
-    ▷ judged 0x43 v (isChoice v) _ refl refl
-    ▷ plain 0x4A v (λ d. refl)
-    ▷ judged 0x4C v (tileTransparentFits v) _ refl refl
-    ▷ judged 0x68 v (ulaControlFits v) _ refl refl
-    ▷ judged 0x6B v (tileControlFits v) _ refl refl
-    ▷ plain 0x6C v (λ d. refl)
-    ▷ plain 0x6E (v % 64) (λ d. refl)
-    ▷ plain 0x6F (v % 64) (λ d. refl)
+    let row = takes s v b z h in
+    row _ v _ _ refl refl
+    ▷ row _ v _ _ refl refl
+    ▷ row _ v _ _ refl refl
+    ▷ row _ v _ _ refl refl
+    ▷ row _ v _ _ refl refl
+    ▷ row _ v _ _ refl refl
+    ▷ row _ v _ _ refl refl
+    ▷ row _ v _ _ refl refl
+    ▷ row _ v _ _ refl refl
+    ▷ row _ v _ _ refl refl
+    ▷ row _ v _ _ refl refl
+    ▷ row _ v _ _ refl refl
+    ▷ row _ v _ _ refl refl
+    ▷ row _ v _ _ refl refl
+    ▷ row _ v _ _ refl refl
+    ▷ row _ v _ _ refl refl
+    ▷ row _ (v % 64) _ _ refl refl
+    ▷ row _ (v % 64) _ _ refl refl
     ▷ none
+
+abbrev Accepted : Answer → Type 0
+Accepted a = a .reply ≡ Done
+
+pub portsTake : PortsTake
+unfolding PortsTake
+portsTake s v h =
+    record {
+      border = port-row s 0x00FE v h;
+      timex = port-row s 0x00FF v h;
+      select = λ l. port-row s 0xBF3B v h ∙ if-true (selectFits v) _ _ (lt-ltb v 128 l);
+      select-outside = λ l. port-row s 0xBF3B v h ∙ if-false (selectFits v) _ _ (le-ltb v 128 l);
+      plus = ap (λ (a : Answer). a .reply) (port-row s 0xFF3B v h) ∙ either Accepted (modeGroup s) _ _ refl refl;
+    }
 
 -- ---- reads of a lawful state
 
@@ -199,22 +210,26 @@ portsReadBack s v b z h =
       λ l. back 0xFF3B ∙ mode-back s v l,
     )
 
--- ---- the held half
+-- ---- colours, and the held half
 
-module _ (s : State) (first : ℕ) (h : lawfulState s ≡ true) (e : s .palette .held ≡ false) where
-  once : writeRegister s 0x44 first ≡ done (withPalette s (paletteWithHalf (s .palette) first))
-  once = write-row s 0x44 first h ∙ if-false (s .palette .held) _ _ e
+pub eightOnce : EightOnce
+unfolding EightOnce
+eightOnce s v h = write-row s 0x41 v h
 
 pub nineOnce : NineOnce
 unfolding NineOnce
-nineOnce s first n h e = ap (λ (a : Answer). paletteAt n (a .state)) (once s first h e)
+nineOnce s first h e = write-row s 0x44 first h ∙ if-false (s .palette .held) _ _ e
+
+pub nineRefused : NineRefused
+unfolding NineRefused
+nineRefused s v l h e = write-row s 0x44 v h ∙ if-true (s .palette .held) _ _ e ∙ if-false (leb v 1) _ _ (lt-leb v 1 l)
 
 pub nineTwice : NineTwice
-unfolding NineTwice LawfulStays
+unfolding NineTwice NineOnce LawfulStays
 nineTwice s first bit b l z h e =
     let p = paletteWithHalf (s .palette) first in
     let s1 = withPalette s p in
-    let o = once s first h e in
+    let o = nineOnce s first h e in
     let h1 : lawfulState s1 ≡ true = sym (ap (λ (a : Answer). lawfulState (a .state)) o) ∙ lawfulStays .0 s 0x44 first b z h .0 in
     ap (λ (a : Answer). writeRegister (a .state) 0x44 bit) o
     ∙ write-row s1 0x44 bit h1
@@ -270,15 +285,34 @@ fourClipWrites = (
       (four (s .tileclip) (s .turns .tiles) a b c d (z .tileclip .long) (leb-true (s .turns .tiles) 3 (tile-turn (s .turns) (p .0 .turns)))),
 )
 
+pub clipsTake : ClipsTake
+unfolding ClipsTake
+clipsTake s v h = (ap (λ (a : Answer). a .reply) (write-row s 0x1A v h), ap (λ (a : Answer). a .reply) (write-row s 0x1B v h))
+
 pub turnsRestarted : TurnsRestarted
 unfolding TurnsRestarted
-turnsRestarted s v l h =
-    let w : writeRegister s 0x1C v ≡ done (withTurns s (turnsWithTiles (turnsWithUla (s .turns) (restarted (v / 4 % 2) (s .turns .ula))) (restarted (v / 8 % 2) (s .turns .tiles)))) =
-    write-row s 0x1C v h ∙ if-true (leb v 15) _ _ (le-leb v 15 l) in
-    let u = ap (λ (a : Answer). a .state .turns .ula) w in
-    let t = ap (λ (a : Answer). a .state .turns .tiles) w in (
-      λ e. t ∙ restart-set (v / 8 % 2) (s .turns .tiles) e,
-      λ e. t ∙ restart-clear (v / 8 % 2) (s .turns .tiles) e,
-      λ e. u ∙ restart-set (v / 4 % 2) (s .turns .ula) e,
-      λ e. u ∙ restart-clear (v / 4 % 2) (s .turns .ula) e,
-    )
+turnsRestarted s v h =
+    let row = write-row s 0x1C v h in
+    let w : v ≤ 15 → writeRegister s 0x1C v ≡ done (withTurns s (turnsWithTiles (turnsWithUla (s .turns) (restarted (v / 4 % 2) (s .turns .ula))) (restarted (v / 8 % 2) (s .turns .tiles)))) =
+    λ l. row ∙ if-true (leb v 15) _ _ (le-leb v 15 l) in
+    record {
+      inside = λ l. ap (λ (a : Answer). a .reply) (w l);
+      tiles = λ l e. ap (λ (a : Answer). a .state .turns .tiles) (w l) ∙ restart-set (v / 8 % 2) (s .turns .tiles) e;
+      tiles-kept = λ l e. ap (λ (a : Answer). a .state .turns .tiles) (w l) ∙ restart-clear (v / 8 % 2) (s .turns .tiles) e;
+      ula = λ l e. ap (λ (a : Answer). a .state .turns .ula) (w l) ∙ restart-set (v / 4 % 2) (s .turns .ula) e;
+      ula-kept = λ l e. ap (λ (a : Answer). a .state .turns .ula) (w l) ∙ restart-clear (v / 4 % 2) (s .turns .ula) e;
+      outside = λ l. row ∙ if-false (leb v 15) _ _ (lt-leb v 15 l);
+    }
+
+-- ---- every other number
+
+port-reads-other : (n : ℕ) → NoneOf portNumbers n → NoneOf (readNumbers portReads) n
+port-reads-other n (x ▷ y ▷ z ▷ w ▷ none) = y ▷ w ▷ none
+
+pub othersMissing : OthersMissing
+unfolding OthersMissing
+othersMissing s n v h =
+    record {
+      register = λ x. (write-row s n v h ∙ no-write-row registerWrites s n v x, read-row s n h ∙ no-read-row registerReads s n x);
+      port = λ x. (port-row s n v h ∙ no-write-row portWrites s n v x, read-port-row s n h ∙ no-read-row portReads s n (port-reads-other n x));
+    }

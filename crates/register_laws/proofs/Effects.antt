@@ -12,7 +12,7 @@ use Rattle.state.specs.declared.Tiles.{Tiles}
 use Rattle.state.specs.declared.Palette.{Palette}
 use Rattle.state.specs.declared.Turns.{Turns}
 use Rattle.state.specs.declared.Ports.{Ports}
-use Rattle.state.specs.Bounds.{ulaYFits, ulaControlFits, isMask, isChoice, halfFits, tileTransparentFits, tileControlFits, xHighFits, baseFits, turnFits, borderFits, selectFits}
+use Rattle.register_bounds.specs.Bounds.{ulaYFits, ulaControlFits, isMask, isChoice, halfFits, tileTransparentFits, tileControlFits, xHighFits, baseFits, turnFits, borderFits, selectFits}
 use Rattle.state.specs.Lawful.{lawfulTiles, lawfulPalette, lawfulTurns, lawfulPorts}
 use Rattle.state.specs.Typed.{PaletteTyped, TurnsTyped}
 use Rattle.state.specs.Answer.{done}
@@ -22,9 +22,10 @@ use Rattle.state.proofs.Typed as typed
 use Rattle.colour.specs.Bytes.{widened}
 use Rattle.register_stored.specs.Stored.{peripheralWritten, transparentWritten, layersWritten, tileXHighWritten, tileXLowWritten, tileYWritten, ulaXWritten, ulaYWritten, fallbackWritten, tileTransparentWritten, ulaControlWritten, tileControlWritten, tileAttributeWritten, mapWritten, definitionsWritten}
 use Rattle.register_clips.specs.Clips.{coordinate, nextTurn, ulaClipWritten, tileClipWritten, restarted, turnsWritten}
-use Rattle.register_palettes.specs.Palettes.{paletteAt, paletteChoice, nextIndex, colourStored, colourPut, indexWritten, eightWritten, maskWritten, controlWritten, nineFirst, nineSecond, nineWritten}
+use Rattle.register_colours.specs.Colours.{paletteAt, paletteChoice, nextIndex, colourStored, colourPut}
+use Rattle.register_palettes.specs.Palettes.{indexWritten, eightWritten, maskWritten, controlWritten, nineFirst, nineSecond, nineWritten}
 use Rattle.register_ports.specs.Ports.{borderWritten, timexWritten, selectWritten, modeGroup, modeWritten, plusWritten, portWrites}
-use Rattle.registers.specs.Registers.{registerWrites}
+use Rattle.register_tables.specs.Tables.{registerWrites}
 use Rattle.register_laws.specs.Claims.{Each, none, _▷_}
 use Rattle.register_laws.proofs.Parts.{Parts, ula-group, tiles-group, palette-group, turns-group, ports-group, set-colours, palette-lawful, palette-typed, with-palette-at}
 use Rattle.register_laws.proofs.Rows.{Sound, always, judged, stored, stored-if, chosen}

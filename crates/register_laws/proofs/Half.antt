@@ -10,14 +10,14 @@ use Rattle.state.specs.declared.State.{State}
 use Rattle.state.specs.declared.Palette.{Palette}
 use Rattle.state.specs.declared.Answer.{Answer}
 use Rattle.state.specs.Answer.{done, refused}
-use Rattle.state.specs.Bounds.{isMask, ulaYFits, tileTransparentFits, ulaControlFits, tileControlFits, xHighFits, selectFits}
+use Rattle.register_bounds.specs.Bounds.{isMask, ulaYFits, tileTransparentFits, ulaControlFits, tileControlFits, xHighFits, selectFits}
 use Rattle.state.specs.Lawful.{lawfulState}
 use Rattle.state.specs.With.{withPalette}
 use Rattle.register_answers.specs.Answers.{ifFits, writeLawful}
 use Rattle.register_answers.specs.Rows.{writeBy}
-use Rattle.register_palettes.specs.Palettes.{colourStored}
+use Rattle.register_colours.specs.Colours.{colourStored}
 use Rattle.register_ports.specs.Ports.{modeGroup, portWrites}
-use Rattle.registers.specs.Registers.{registerWrites}
+use Rattle.register_tables.specs.Tables.{registerWrites}
 use Rattle.register_laws.specs.Claims.{Each, none, _▷_, SameHalf}
 use Rattle.register_laws.proofs.Rows.{by-row}
 

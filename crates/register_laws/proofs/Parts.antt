@@ -14,13 +14,13 @@ use Rattle.state.specs.declared.Tiles.{Tiles}
 use Rattle.state.specs.declared.Palette.{Palette}
 use Rattle.state.specs.declared.Turns.{Turns}
 use Rattle.state.specs.declared.Ports.{Ports}
-use Rattle.state.specs.Bounds.{colourFits}
+use Rattle.register_bounds.specs.Bounds.{colourFits}
 use Rattle.state.specs.Lawful.{lawfulUla, lawfulPalette, lawfulTiles, lawfulTurns, lawfulPorts, allColours, lawfulState}
 use Rattle.state.specs.Typed.{Numbers, UlaTyped, TilesTyped, PaletteTyped, TurnsTyped, PortsTyped, Typed}
 use Rattle.state.specs.With.{withUla, withTiles, withPalette, withTurns, withPorts}
 use Rattle.state.proofs.Kept.{groups, colours}
 use Rattle.state.proofs.Typed as typed
-use Rattle.register_palettes.specs.Palettes.{paletteAt, withPaletteAt}
+use Rattle.register_colours.specs.Colours.{paletteAt, withPaletteAt}
 
 -- the groups of a lawful state, its palettes, and what its types give
 pub record Groups (u : Ula) (p : Palette) (t : Tiles) (r : Turns) (o : Ports) : Type 0 where

@@ -1,12 +1,12 @@
 -- What holds of a write to each row holds of every write. By induction over the rows of a table.
-use mathlib.Core.Path.{_≡_, refl, ap}
+use mathlib.Core.Path.{_≡_, refl, ap, _∙_}
 use mathlib.Core.List.{List, [], _∷_}
 use mathlib.Core.Bool.{Bool, true, false, cond}
 use Prim.Native.Nat.{ℕ, _<_}
 use native.Mathlib.Omega.{arith}
 use lib.Dec.{eqb}
-use borrow.Author.Tests.{eqb-true}
-use Rattle.lists.proofs.Cond.{either}
+use borrow.Author.Tests.{eqb-true, ne-eqb}
+use Rattle.lists.proofs.Cond.{if-false, either}
 use Rattle.reply.specs.declared.Reply.the-variants.{Done, NotLawful, NoRegister}
 use Rattle.reply.specs.Reply.{replyNumber}
 use Rattle.state.specs.declared.State.{State}
@@ -15,7 +15,7 @@ use Rattle.state.specs.Answer.{done, refused}
 use Rattle.register_answers.specs.declared.Reading.{Reading}
 use Rattle.register_answers.specs.Answers.{ifFits, unread}
 use Rattle.register_answers.specs.Rows.{WriteRow, writeBy, ReadRow, readBy}
-use Rattle.register_laws.specs.Claims.{Each, none, _▷_}
+use Rattle.register_laws.specs.Claims.{Each, none, _▷_, NoneOf}
 use Rattle.register_laws.proofs.Parts.{Parts, Group}
 
 -- no row refuses a state as not lawful
@@ -92,3 +92,21 @@ by-rows P (r ∷ rs) s n v p h (k ▷ ks) = either P (eqb n (r .number)) (r .eff
 pub by-reads : (P : Reading → Type 0) (rs : List ReadRow) (s : State) (n : ℕ) → P (unread NoRegister) → Each (λ r. P (r .reading s)) rs → P (readBy rs s n)
 by-reads P [] s n p none = p
 by-reads P (r ∷ rs) s n p (k ▷ ks) = either P (eqb n (r .number)) (r .reading s) (readBy rs s n) k (by-reads P rs s n p ks)
+
+-- ---- a number that no row has
+
+abbrev pub writeNumbers : List WriteRow → List ℕ
+writeNumbers [] = []
+writeNumbers (r ∷ rs) = r .number ∷ writeNumbers rs
+
+abbrev pub readNumbers : List ReadRow → List ℕ
+readNumbers [] = []
+readNumbers (r ∷ rs) = r .number ∷ readNumbers rs
+
+pub no-write-row : (rs : List WriteRow) (s : State) (n v : ℕ) → NoneOf (writeNumbers rs) n → writeBy rs s n v ≡ refused NoRegister s
+no-write-row [] s n v none = refl
+no-write-row (r ∷ rs) s n v (x ▷ xs) = if-false (eqb n (r .number)) _ _ (ne-eqb n (r .number) x) ∙ no-write-row rs s n v xs
+
+pub no-read-row : (rs : List ReadRow) (s : State) (n : ℕ) → NoneOf (readNumbers rs) n → readBy rs s n ≡ unread NoRegister
+no-read-row [] s n none = refl
+no-read-row (r ∷ rs) s n (x ▷ xs) = if-false (eqb n (r .number)) _ _ (ne-eqb n (r .number) x) ∙ no-read-row rs s n xs

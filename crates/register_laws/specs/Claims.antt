@@ -2,19 +2,21 @@
 use Prim.Native.Nat.{ℕ, _+_, _*_, _/_, _%_, _≤_, _<_}
 use mathlib.Core.Path.{_≡_}
 use mathlib.Core.List.{List, [], _∷_}
-use mathlib.Core.Bool.{true, false, cond}
+use mathlib.Core.Bool.{Bool, true, false, cond}
 use lib.ListN.{getD, set}
-use Rattle.reply.specs.declared.Reply.the-variants.{Done, NotLawful, NoRegister}
+use Rattle.reply.specs.declared.Reply.the-variants.{Done, NotLawful, NoRegister, OutOfBounds}
+use Rattle.register_bounds.specs.Bounds.{ulaYFits, isMask, isChoice, tileTransparentFits, ulaControlFits, tileControlFits, xHighFits}
 use Rattle.state.specs.declared.State.{State}
 use Rattle.state.specs.declared.Answer.{Answer}
-use Rattle.state.specs.Answer.{done}
+use Rattle.state.specs.Answer.{done, refused}
 use Rattle.state.specs.Bits.{timexOn}
 use Rattle.state.specs.Lawful.{lawfulState}
 use Rattle.state.specs.Typed.{Typed}
-use Rattle.state.specs.Groups.{paletteWithIndex, paletteWithoutHalf}
-use Rattle.state.specs.With.{withPalette}
+use Rattle.state.specs.Groups.{paletteWithIndex, paletteWithHalf, paletteWithoutHalf, portsWithBorder, portsWithTimex, portsWithSelect}
+use Rattle.state.specs.With.{withPalette, withPorts}
+use Rattle.colour.specs.Bytes.{widened}
 use Rattle.register_answers.specs.Answers.{given, unread}
-use Rattle.register_palettes.specs.Palettes.{paletteAt, withPaletteAt, paletteChoice, nextIndex}
+use Rattle.register_colours.specs.Colours.{paletteAt, withPaletteAt, paletteChoice, nextIndex}
 use Rattle.registers.specs.Registers.{writeRegister, writePort, readRegister, readPort}
 
 -- P of each member of a list
@@ -23,6 +25,10 @@ pub data Each {A : Type 0} (P : A → Type 0) : List A → Type 0 where
   _▷_ : {x : A} {xs : List A} → P x → Each P xs → Each P (x ∷ xs)
 
 infixr 4 _▷_
+-- n is none of a list of numbers
+abbrev pub NoneOf : List ℕ → ℕ → Type 0
+NoneOf ks n = Each (λ k. n ≡ k → ⊥) ks
+
 -- a write by number: of a register, or of a port
 abbrev pub Write : Type 0
 Write = State → ℕ → ℕ → Answer
@@ -52,46 +58,70 @@ pub record NeverFour : Type 0 where
 
 -- ---- reading back
 
--- a register that is stored, and what it keeps of a byte
+-- a register that is stored: the bytes that it takes, and what it keeps of one
 pub record Stored : Type 0 where
   pub number : ℕ
+  pub fits : ℕ → Bool
   pub kept : ℕ → ℕ
 
-abbrev pub whole : ℕ → Stored
-whole n = record { number = n; kept = λ v. v }
+abbrev pub stores : ℕ → (ℕ → Bool) → (ℕ → ℕ) → Stored
+stores n f k = record { number = n; fits = f; kept = k }
 
-abbrev pub mod64 : ℕ → Stored
-mod64 n = record { number = n; kept = λ v. v % 64 }
+-- no bound
+abbrev pub anyByte : ℕ → Bool
+anyByte v = true
 
--- the registers that are stored as they are; $6E and $6F drop bits 7-6
+-- the byte as it is
+abbrev pub whole : ℕ → ℕ
+whole v = v
+
+-- bits 7-6 dropped
+abbrev pub low6 : ℕ → ℕ
+low6 v = v % 64
+
+-- the registers that are stored, each with its bound
 abbrev pub storedRegisters : List Stored
 storedRegisters =
-    whole 0x08 ∷
-    whole 0x14 ∷
-    whole 0x15 ∷
-    whole 0x2F ∷
-    whole 0x30 ∷
-    whole 0x31 ∷
-    whole 0x32 ∷
-    whole 0x33 ∷
-    whole 0x40 ∷
-    whole 0x42 ∷
-    whole 0x43 ∷
-    whole 0x4A ∷
-    whole 0x4C ∷
-    whole 0x68 ∷
-    whole 0x6B ∷
-    whole 0x6C ∷
-    mod64 0x6E ∷
-    mod64 0x6F ∷
+    stores 0x08 anyByte whole ∷
+    stores 0x14 anyByte whole ∷
+    stores 0x15 anyByte whole ∷
+    stores 0x2F xHighFits whole ∷
+    stores 0x30 anyByte whole ∷
+    stores 0x31 anyByte whole ∷
+    stores 0x32 anyByte whole ∷
+    stores 0x33 ulaYFits whole ∷
+    stores 0x40 anyByte whole ∷
+    stores 0x42 isMask whole ∷
+    stores 0x43 isChoice whole ∷
+    stores 0x4A anyByte whole ∷
+    stores 0x4C tileTransparentFits whole ∷
+    stores 0x68 ulaControlFits whole ∷
+    stores 0x6B tileControlFits whole ∷
+    stores 0x6C anyByte whole ∷
+    stores 0x6E anyByte low6 ∷
+    stores 0x6F anyByte low6 ∷
     []
 
--- after an accepted write of a stored register, reading it gives what it keeps of the byte
+-- a byte v written to register n of s: where it fits, the write is done and reads back as k; where not, it is 10 and the state is as it was
+pub record Takes (s : State) (n v : ℕ) (fits : Bool) (k : ℕ) : Type 0 where
+  pub inside : fits ≡ true → (writeRegister s n v .reply ≡ Done) × (readRegister (writeRegister s n v .state) n ≡ given k)
+  pub outside : fits ≡ false → writeRegister s n v ≡ refused OutOfBounds s
+
+-- each stored register takes just the bytes in its bounds, and gives back what it keeps of them
 unfoldable pub ReadsBack : Type 0
 ReadsBack =
-    (s : State) (v : ℕ) → v < 256 → Typed s → lawfulState s ≡ true
-    → Each (λ r. writeRegister s (r .number) v .reply ≡ Done → readRegister (writeRegister s (r .number) v .state) (r .number) ≡ given (r .kept v))
-    storedRegisters
+    (s : State) (v : ℕ) → v < 256 → Typed s → lawfulState s ≡ true → Each (λ r. Takes s (r .number) v (r .fits v) (r .kept v)) storedRegisters
+
+-- what a write of each port does: $FE keeps the low three bits, $BF3B takes bytes below 128, and $FF and $FF3B take any
+pub record PortTakes (s : State) (v : ℕ) : Type 0 where
+  pub border : writePort s 0x00FE v ≡ done (withPorts s (portsWithBorder (s .ports) (v % 8)))
+  pub timex : writePort s 0x00FF v ≡ done (withPorts s (portsWithTimex (s .ports) v))
+  pub select : v < 128 → writePort s 0xBF3B v ≡ done (withPorts s (portsWithSelect (s .ports) v))
+  pub select-outside : 128 ≤ v → writePort s 0xBF3B v ≡ refused OutOfBounds s
+  pub plus : writePort s 0xFF3B v .reply ≡ Done
+
+unfoldable pub PortsTake : Type 0
+PortsTake = (s : State) (v : ℕ) → lawfulState s ≡ true → PortTakes s v
 
 -- $FF gives its byte back while $08 bit 2 is set; $FF3B its byte for a ULAplus register, and bit 0 for the mode
 unfoldable pub PortsReadBack : Type 0
@@ -101,21 +131,33 @@ PortsReadBack =
     × (s .ports .select < 64 → readPort (writePort s 0xFF3B v .state) 0xFF3B ≡ given v)
     × (64 ≤ s .ports .select → readPort (writePort s 0xFF3B v .state) 0xFF3B ≡ given (v % 2))
 
--- ---- the held half
+-- ---- colours, and the held half
 
--- $44 twice from no held half stores first × 2 + bit at the index in the palette written and nowhere else; the index moves and the half is gone
+-- colour c at the index in the palette written and nowhere else; the index moved, and no half held
+abbrev pub withColour : State → ℕ → State
+withColour s c =
+    withPalette (withPaletteAt (paletteChoice s) s (set (paletteAt (paletteChoice s) s) (s .palette .index) c))
+    (paletteWithoutHalf (paletteWithIndex (s .palette) (nextIndex (s .palette .control) (s .palette .index))))
+
+-- $41 stores the widened colour, whatever half is held
+unfoldable pub EightOnce : Type 0
+EightOnce = (s : State) (v : ℕ) → lawfulState s ≡ true → writeRegister s 0x41 v ≡ done (withColour s (widened v))
+
+-- $44 once from no held half holds the byte and changes nothing else
+unfoldable pub NineOnce : Type 0
+NineOnce =
+    (s : State) (first : ℕ) → lawfulState s ≡ true → s .palette .held ≡ false
+    → writeRegister s 0x44 first ≡ done (withPalette s (paletteWithHalf (s .palette) first))
+
+-- $44 twice from no held half stores first × 2 + bit
 unfoldable pub NineTwice : Type 0
 NineTwice =
     (s : State) (first bit : ℕ) → first < 256 → bit ≤ 1 → Typed s → lawfulState s ≡ true → s .palette .held ≡ false
-    → writeRegister (writeRegister s 0x44 first .state) 0x44 bit
-    ≡ done
-    (withPalette (withPaletteAt (paletteChoice s) s (set (paletteAt (paletteChoice s) s) (s .palette .index) (first * 2 + bit)))
-    (paletteWithoutHalf (paletteWithIndex (s .palette) (nextIndex (s .palette .control) (s .palette .index)))))
+    → writeRegister (writeRegister s 0x44 first .state) 0x44 bit ≡ done (withColour s (first * 2 + bit))
 
--- $44 once changes no palette
-unfoldable pub NineOnce : Type 0
-NineOnce =
-    (s : State) (first n : ℕ) → lawfulState s ≡ true → s .palette .held ≡ false → paletteAt n (writeRegister s 0x44 first .state) ≡ paletteAt n s
+-- a second $44 that is no bit is 10, and the half stays
+unfoldable pub NineRefused : Type 0
+NineRefused = (s : State) (v : ℕ) → 1 < v → lawfulState s ≡ true → s .palette .held ≡ true → writeRegister s 0x44 v ≡ refused OutOfBounds s
 
 -- each of $40, $41, $43 drops the half
 unfoldable pub HalfDropped : Type 0
@@ -132,10 +174,14 @@ SameHalf s t = (t .palette .held ≡ s .palette .held) × (t .palette .half ≡ 
 unfoldable pub HalfKept : Type 0
 HalfKept =
     (s : State) (n v : ℕ)
-    → (Each (λ k. n ≡ k → ⊥) (0x40 ∷ 0x41 ∷ 0x43 ∷ 0x44 ∷ []) → SameHalf s (writeRegister s n v .state))
+    → (NoneOf (0x40 ∷ 0x41 ∷ 0x43 ∷ 0x44 ∷ []) n → SameHalf s (writeRegister s n v .state))
     × SameHalf s (writePort s n v .state)
 
 -- ---- clips and turns
+
+-- a clip takes any byte
+unfoldable pub ClipsTake : Type 0
+ClipsTake = (s : State) (v : ℕ) → lawfulState s ≡ true → (writeRegister s 0x1A v .reply ≡ Done) × (writeRegister s 0x1B v .reply ≡ Done)
 
 -- x lies at coordinate i of a clip, from 0, counted on past the last from the first again
 abbrev pub At : List ℕ → ℕ → ℕ → Type 0
@@ -157,14 +203,17 @@ SetsFour clip turn n =
 unfoldable pub FourClipWrites : Type 0
 FourClipWrites = SetsFour (λ s. s .ulaclip) (λ s. s .turns .ula) 0x1A × SetsFour (λ s. s .tileclip) (λ s. s .turns .tiles) 0x1B
 
--- $1C restarts just the turns that its bits name: bit 3 the tilemap's, bit 2 the ULA's
+-- $1C up to 15 restarts just the turns that its bits name, bit 3 the tilemap's and bit 2 the ULA's; from 16 on it is 10
+pub record Restarts (s : State) (v : ℕ) : Type 0 where
+  pub inside : v ≤ 15 → writeRegister s 0x1C v .reply ≡ Done
+  pub tiles : v ≤ 15 → v / 8 % 2 ≡ 1 → writeRegister s 0x1C v .state .turns .tiles ≡ 0
+  pub tiles-kept : v ≤ 15 → v / 8 % 2 ≡ 0 → writeRegister s 0x1C v .state .turns .tiles ≡ s .turns .tiles
+  pub ula : v ≤ 15 → v / 4 % 2 ≡ 1 → writeRegister s 0x1C v .state .turns .ula ≡ 0
+  pub ula-kept : v ≤ 15 → v / 4 % 2 ≡ 0 → writeRegister s 0x1C v .state .turns .ula ≡ s .turns .ula
+  pub outside : 16 ≤ v → writeRegister s 0x1C v ≡ refused OutOfBounds s
+
 unfoldable pub TurnsRestarted : Type 0
-TurnsRestarted =
-    (s : State) (v : ℕ) → v ≤ 15 → lawfulState s ≡ true
-    → (v / 8 % 2 ≡ 1 → writeRegister s 0x1C v .state .turns .tiles ≡ 0)
-    × (v / 8 % 2 ≡ 0 → writeRegister s 0x1C v .state .turns .tiles ≡ s .turns .tiles)
-    × (v / 4 % 2 ≡ 1 → writeRegister s 0x1C v .state .turns .ula ≡ 0)
-    × (v / 4 % 2 ≡ 0 → writeRegister s 0x1C v .state .turns .ula ≡ s .turns .ula)
+TurnsRestarted = (s : State) (v : ℕ) → lawfulState s ≡ true → Restarts s v
 
 -- ---- reads of a lawful state
 
@@ -196,3 +245,20 @@ WriteOnly =
     → (readPort s 0x00FE ≡ unread NoRegister)
     × (readPort s 0xBF3B ≡ unread NoRegister)
     × (timexOn (s .ula) ≡ false → readPort s 0x00FF ≡ unread NoRegister)
+
+-- ---- every other number
+
+abbrev pub registerNumbers : List ℕ
+registerNumbers =
+    0x08 ∷ 0x14 ∷ 0x15 ∷ 0x1A ∷ 0x1B ∷ 0x1C ∷ 0x2F ∷ 0x30 ∷ 0x31 ∷ 0x32 ∷ 0x33 ∷ 0x40 ∷ 0x41 ∷ 0x42 ∷ 0x43 ∷ 0x44 ∷ 0x4A ∷ 0x4C ∷ 0x68 ∷ 0x6B ∷ 0x6C ∷ 0x6E ∷ 0x6F ∷ []
+
+abbrev pub portNumbers : List ℕ
+portNumbers = 0x00FE ∷ 0x00FF ∷ 0xBF3B ∷ 0xFF3B ∷ []
+
+-- a number that is none of these is 9: a write leaves the state, and a read gives 0
+pub record NoOther (s : State) (n v : ℕ) : Type 0 where
+  pub register : NoneOf registerNumbers n → (writeRegister s n v ≡ refused NoRegister s) × (readRegister s n ≡ unread NoRegister)
+  pub port : NoneOf portNumbers n → (writePort s n v ≡ refused NoRegister s) × (readPort s n ≡ unread NoRegister)
+
+unfoldable pub OthersMissing : Type 0
+OthersMissing = (s : State) (n v : ℕ) → lawfulState s ≡ true → NoOther s n v

@@ -1,14 +1,14 @@
 // The index, and colours written as eight bits at once or as nine bits in two writes.
 ghost use mathlib.Core.Path.{_≡_};
-ghost use Rattle.register_palettes.specs.Palettes.{indexWritten, colourStored, nextIndex, colourPut, eightWritten, nineFirst, nineSecond, nineWritten, colourAt, eightRead, nineRead};
+ghost use Rattle.register_palettes.specs.Palettes.{indexWritten, eightWritten, nineFirst, nineSecond, nineWritten, eightRead, nineRead};
 use colour::widen;
 use lists::u16_of;
 use register_answers::accept;
 use register_answers::if_fits;
+use register_colours::chosen_colour;
+use register_colours::put_colour;
 use state::Answer;
 use state::State;
-use state::choice_of;
-use state::index_stays;
 
 // $40
 pub fn write_index(s: State, value: u8) -> Answer
@@ -19,46 +19,6 @@ pub fn write_index(s: State, value: u8) -> Answer
     t.palette.held = false;
     t.palette.half = 0;
     accept(t)
-}
-
-fn store_colour(s: State, choice: u8, index: u8, colour: u16) -> State
-    ensures { λ r. ⌜ r ≡ colourStored s choice index colour ⌝ }
-{
-    let i = index as usize;
-    let mut t = s;
-    match choice {
-        0 => t.ulafirst[i] = colour,
-        4 => t.ulasecond[i] = colour,
-        3 => t.tilefirst[i] = colour,
-        _ => t.tilesecond[i] = colour,
-    }
-    t
-}
-
-fn next_index(control: u8, index: u8) -> u8
-    ensures { λ r. ⌜ r ≡ nextIndex control index ⌝ }
-{
-    if index_stays(control) {
-        index
-    } else {
-        std::num::wrapping_add_u8(index, 1)
-    }
-}
-
-// A colour stored where the palette registers point; the index moves, and no half is held.
-fn put_colour(s: State, colour: u16) -> State
-    ensures { λ r. ⌜ r ≡ colourPut s colour ⌝ }
-{
-    let control = s.palette.control;
-    let index = s.palette.index;
-    let next = next_index(control, index);
-    let mut p = s.palette;
-    p.index = next;
-    p.held = false;
-    p.half = 0;
-    let mut t = store_colour(s, choice_of(control), index, colour);
-    t.palette = p;
-    t
 }
 
 // $41
@@ -96,20 +56,6 @@ pub fn write_nine(s: State, value: u8) -> Answer
         nine_second(s, value)
     } else {
         nine_first(s, value)
-    }
-}
-
-// The colour where the palette registers point.
-fn chosen_colour(s: State) -> u16
-    ensures { λ r. ⌜ r ≡ colourAt s ⌝ }
-{
-    let i = s.palette.index as usize;
-    let choice = choice_of(s.palette.control);
-    match choice {
-        0 => s.ulafirst[i],
-        4 => s.ulasecond[i],
-        3 => s.tilefirst[i],
-        _ => s.tilesecond[i],
     }
 }
 

@@ -2,10 +2,10 @@
 ghost use mathlib.Core.Path.{_≡_};
 ghost use Rattle.register_palettes.specs.Palettes.{maskWritten, controlWritten};
 use register_answers::if_fits;
+use register_bounds::is_choice;
+use register_bounds::is_mask;
 use state::Answer;
 use state::State;
-use state::is_choice;
-use state::is_mask;
 
 // $42
 pub fn write_mask(s: State, value: u8) -> Answer

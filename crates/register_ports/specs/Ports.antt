@@ -9,7 +9,7 @@ use Rattle.state.specs.declared.State.{State}
 use Rattle.state.specs.declared.Answer.{Answer}
 use Rattle.state.specs.Answer.{done}
 use Rattle.state.specs.Bits.{timexOn}
-use Rattle.state.specs.Bounds.{selectFits}
+use Rattle.register_bounds.specs.Bounds.{selectFits}
 use Rattle.state.specs.Groups.{portsWithBorder, portsWithTimex, portsWithSelect, portsWithPlus}
 use Rattle.state.specs.With.{withPorts, withPlus}
 use Rattle.register_answers.specs.declared.Reading.{Reading}

@@ -8,9 +8,9 @@ use register_answers::give;
 use register_answers::if_fits;
 use register_answers::no_read;
 use register_answers::no_write;
+use register_bounds::select_fits;
 use state::Answer;
 use state::State;
-use state::select_fits;
 use state::timex_on;
 
 // $FE

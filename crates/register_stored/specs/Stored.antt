@@ -3,7 +3,7 @@ use Prim.Native.Nat.{ℕ, _%_}
 use Rattle.state.specs.declared.State.{State}
 use Rattle.state.specs.declared.Answer.{Answer}
 use Rattle.state.specs.Answer.{done}
-use Rattle.state.specs.Bounds.{ulaYFits, tileTransparentFits, ulaControlFits, tileControlFits, xHighFits}
+use Rattle.register_bounds.specs.Bounds.{ulaYFits, tileTransparentFits, ulaControlFits, tileControlFits, xHighFits}
 use Rattle.state.specs.Groups.{ulaWithTransparent, ulaWithLayers, ulaWithPeripheral, ulaWithFallback, ulaWithControl, ulaWithX, ulaWithY, tilesWithTransparent, tilesWithControl, tilesWithAttribute, tilesWithXHigh, tilesWithXLow, tilesWithY, tilesWithMap, tilesWithDefinitions}
 use Rattle.state.specs.With.{withUla, withTiles}
 use Rattle.register_answers.specs.Answers.{ifFits}

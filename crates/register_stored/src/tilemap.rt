@@ -3,11 +3,11 @@ ghost use mathlib.Core.Path.{_≡_};
 ghost use Rattle.register_stored.specs.Stored.{tileXHighWritten, tileXLowWritten, tileYWritten, tileTransparentWritten, tileControlWritten, tileAttributeWritten, mapWritten, definitionsWritten};
 use register_answers::accept;
 use register_answers::if_fits;
+use register_bounds::tile_control_fits;
+use register_bounds::tile_transparent_fits;
+use register_bounds::x_high_fits;
 use state::Answer;
 use state::State;
-use state::tile_control_fits;
-use state::tile_transparent_fits;
-use state::x_high_fits;
 
 // $2F
 pub fn write_tile_x_high(s: State, value: u8) -> Answer

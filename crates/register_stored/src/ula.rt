@@ -3,10 +3,10 @@ ghost use mathlib.Core.Path.{_≡_};
 ghost use Rattle.register_stored.specs.Stored.{peripheralWritten, transparentWritten, layersWritten, ulaXWritten, ulaYWritten, fallbackWritten, ulaControlWritten};
 use register_answers::accept;
 use register_answers::if_fits;
+use register_bounds::ula_control_fits;
+use register_bounds::ula_y_fits;
 use state::Answer;
 use state::State;
-use state::ula_control_fits;
-use state::ula_y_fits;
 
 // $08
 pub fn write_peripheral(s: State, value: u8) -> Answer

@@ -6,5 +6,4 @@ mod write;
 pub use port::read_port;
 pub use port::write_port;
 pub use read::read_register;
-pub use write::write_numbered;
 pub use write::write_register;

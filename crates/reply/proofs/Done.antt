@@ -1,4 +1,4 @@
--- A reply is done exactly where its number is 0. Only `number-done` goes by the cases of a reply; all else goes by it.
+-- A reply is done exactly where its number is 0, since the number tells the reply.
 use Prim.Native.Nat.{ℕ}
 use mathlib.Core.Path.{_≡_, refl, ap}
 use mathlib.Core.Bool.{Bool, true, false, cond}
@@ -6,23 +6,11 @@ use native.Mathlib.Omega.{arith}
 use borrow.Author.Tests.{eqb-true}
 use Rattle.reply.specs.Reply.{replyNumber, isDone}
 use Rattle.reply.specs.declared.Reply.{Reply}
-use Rattle.reply.specs.declared.Reply.the-variants.{Done, NoLine, BankLength, BufferLength, NotLawful, NoMode, LoresWithTiles, NextWithPlus, FarOffset, NoRegister, OutOfBounds, TooManyTiles, PackingBounds, NotRecord}
+use Rattle.reply.specs.declared.Reply.the-variants.{Done}
+use Rattle.reply.proofs.Claims.{numberTells}
 
 pub number-done : (r : Reply) → replyNumber r ≡ 0 → r ≡ Done
-number-done Done e = refl
-number-done NoLine e = absurd (omega arith)
-number-done BankLength e = absurd (omega arith)
-number-done BufferLength e = absurd (omega arith)
-number-done NotLawful e = absurd (omega arith)
-number-done NoMode e = absurd (omega arith)
-number-done LoresWithTiles e = absurd (omega arith)
-number-done NextWithPlus e = absurd (omega arith)
-number-done FarOffset e = absurd (omega arith)
-number-done NoRegister e = absurd (omega arith)
-number-done OutOfBounds e = absurd (omega arith)
-number-done TooManyTiles e = absurd (omega arith)
-number-done PackingBounds e = absurd (omega arith)
-number-done NotRecord e = absurd (omega arith)
+number-done r e = numberTells r Done e
 
 pub done-number : (r : Reply) → r ≡ Done → replyNumber r ≡ 0
 done-number r e = ap replyNumber e

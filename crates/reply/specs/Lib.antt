@@ -1,2 +1,3 @@
 pub mod Reply
 pub mod First
+pub mod Claims

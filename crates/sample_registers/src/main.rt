@@ -67,7 +67,7 @@ fn read_port(s: State, port: u16) -> State {
 }
 
 fn next_frame(s: State) -> State {
-    let answer = state::next_frame(s);
+    let answer = frame::next_frame(s);
     let reply = answer.reply;
     word(b"nf");
     print_reply(reply);

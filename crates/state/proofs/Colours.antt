@@ -7,7 +7,7 @@ use native.Mathlib.Numerals.{add-one}
 use lib.ListN.{length, drop, getD, drop-of-length-le}
 use lib.Seq.{drop-cons}
 use Rattle.lists.proofs.Cond.{and-assoc, and-true}
-use Rattle.state.specs.Bounds.{colourFits}
+use Rattle.register_bounds.specs.Bounds.{colourFits}
 use Rattle.state.specs.Lawful.{allColours}
 
 pub colours-more : (a : List ℕ) (i : ℕ) (ok : Bool) → i < length a → allColours a ≡ (ok && allColours (drop i a))

@@ -5,7 +5,7 @@ use mathlib.Core.List.{List, [], _∷_}
 use mathlib.Core.Bool.{Bool, true}
 use Rattle.lists.proofs.Chain.{chain, AllTrue, chain-apart, chain-join}
 use Rattle.state.specs.declared.State.{State}
-use Rattle.state.specs.Bounds.{ulaYFits, ulaControlFits, isMask, isChoice, halfFits, tileTransparentFits, tileControlFits, xHighFits, baseFits, turnFits, borderFits, selectFits}
+use Rattle.register_bounds.specs.Bounds.{ulaYFits, ulaControlFits, isMask, isChoice, halfFits, tileTransparentFits, tileControlFits, xHighFits, baseFits, turnFits, borderFits, selectFits}
 use Rattle.state.specs.Lawful.{lawfulUla, lawfulPalette, lawfulTiles, lawfulTurns, lawfulPorts, allColours, lawfulState}
 
 pub record Kept (s : State) : Type 0 where

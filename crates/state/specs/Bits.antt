@@ -14,10 +14,6 @@ timexOn u = eqb (u .peripheral / 4 % 2) 1
 abbrev pub loresOn : Ula → Bool
 loresOn u = leb 128 (u .layers)
 
--- $43: bits 6-4 choose the palette written
-abbrev pub choiceOf : ℕ → ℕ
-choiceOf control = control / 16 % 8
-
 -- $43: bit 7 keeps the palette index where it is
 abbrev pub indexStays : ℕ → Bool
 indexStays control = leb 128 control

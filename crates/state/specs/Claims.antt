@@ -1,21 +1,10 @@
 -- What no single call states of lawful states.
-use Prim.Native.Nat.{_<_}
 use mathlib.Core.Path.{_≡_}
 use mathlib.Core.Bool.{true}
-use Rattle.state.specs.declared.State.{State}
 use Rattle.state.specs.Lawful.{lawfulState}
 use Rattle.state.specs.Typed.{Typed}
 use Rattle.state.specs.Reset.{resetState}
-use Rattle.state.specs.Frame.{nextFrame, framesOn}
 
 -- the reset state is lawful, and typed
 abbrev pub ResetLawful : Type 0
 ResetLawful = (lawfulState resetState ≡ true) × Typed resetState
-
--- the next frame of a lawful and typed state is lawful and typed
-abbrev pub FrameLawful : Type 0
-FrameLawful = (s : State) → lawfulState s ≡ true → Typed s → (lawfulState (nextFrame s .state) ≡ true) × Typed (nextFrame s .state)
-
--- 256 frames bring a lawful state back; its frame number is a byte
-abbrev pub FramesReturn : Type 0
-FramesReturn = (s : State) → lawfulState s ≡ true → s .frame < 256 → framesOn 256 s ≡ s

@@ -9,7 +9,7 @@ use Rattle.state.specs.declared.Tiles.{Tiles}
 use Rattle.state.specs.declared.Palette.{Palette}
 use Rattle.state.specs.declared.Turns.{Turns}
 use Rattle.state.specs.declared.Ports.{Ports}
-use Rattle.state.specs.Bounds.{ulaYFits, ulaControlFits, isMask, isChoice, halfFits, tileTransparentFits, tileControlFits, xHighFits, baseFits, turnFits, borderFits, selectFits, colourFits}
+use Rattle.register_bounds.specs.Bounds.{ulaYFits, ulaControlFits, isMask, isChoice, halfFits, tileTransparentFits, tileControlFits, xHighFits, baseFits, turnFits, borderFits, selectFits, colourFits}
 
 -- $33, $68
 abbrev pub lawfulUla : Ula → Bool

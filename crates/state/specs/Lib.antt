@@ -1,10 +1,8 @@
 pub mod Bits
-pub mod Bounds
 pub mod Lawful
 pub mod Typed
 pub mod Answer
 pub mod Groups
 pub mod With
 pub mod Reset
-pub mod Frame
 pub mod Claims

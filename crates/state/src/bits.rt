@@ -1,7 +1,7 @@
 // What single bits of the registers mean.
 ghost use mathlib.Core.Path.{_≡_};
 ghost use Prim.Native.Nat.{_+_, _*_, _<_, _≤_};
-ghost use Rattle.state.specs.Bits.{timexOn, loresOn, nextOn, ulaSecondShown, ulaOn, stencilSet, tilemapOn, columns80, oneByteEntries, tileSecondShown, columnsOf, widthOf, xOffset, choiceOf, indexStays};
+ghost use Rattle.state.specs.Bits.{timexOn, loresOn, nextOn, ulaSecondShown, ulaOn, stencilSet, tilemapOn, columns80, oneByteEntries, tileSecondShown, columnsOf, widthOf, xOffset, indexStays};
 use crate::Palette;
 use crate::Tiles;
 use crate::Ula;
@@ -85,13 +85,6 @@ pub fn x_offset(t: Tiles) -> usize
     ensures { λ r. ⌜ (r ≡ xOffset t) × (r < t .xhigh * 256 + 256) ⌝ }
 {
     usize_of(t.xhigh) * 256 + usize_of(t.xlow)
-}
-
-// The palette that $43 chooses to be written.
-pub fn choice_of(control: u8) -> u8
-    ensures { λ r. ⌜ r ≡ choiceOf control ⌝ }
-{
-    control / 16 % 8
 }
 
 pub fn index_stays(control: u8) -> bool

@@ -1,7 +1,7 @@
-// What is lawful. A bound that more than one test needs is a function; a group's test is one chain of `&` in the order of its definition.
+// What is lawful: the bounds of a group's registers together, and those of a whole state. A group's test is one chain of `&` in the order of
+// its definition.
 ghost use mathlib.Core.Path.{_≡_};
 ghost use mathlib.Core.Bool.{_&&_};
-ghost use Rattle.state.specs.Bounds.{ulaYFits, ulaControlFits, isMask, isChoice, tileTransparentFits, tileControlFits, xHighFits, baseFits, turnFits, selectFits};
 ghost use Rattle.state.specs.Lawful.{lawfulUla, lawfulPalette, lawfulTiles, lawfulTurns, lawfulPorts, allColours, lawfulState};
 use crate::Palette;
 use crate::Ports;
@@ -9,78 +9,18 @@ use crate::State;
 use crate::Tiles;
 use crate::Turns;
 use crate::Ula;
-use crate::choice_of;
-
-// $33
-pub fn ula_y_fits(v: u8) -> bool
-    ensures { λ r. ⌜ r ≡ ulaYFits v ⌝ }
-{
-    v <= 191
-}
-
-// One of the eight ink masks.
-pub fn is_mask(x: u8) -> bool
-    ensures { λ r. ⌜ r ≡ isMask x ⌝ }
-{
-    (x == 1) | (x == 3) | (x == 7) | (x == 15) | (x == 31) | (x == 63) | (x == 127) | (x == 255)
-}
-
-// One of the four palettes, by $43 bits 6-4.
-pub fn is_choice(control: u8) -> bool
-    ensures { λ r. ⌜ r ≡ isChoice control ⌝ }
-{
-    let choice = choice_of(control);
-    (choice == 0) | (choice == 4) | (choice == 3) | (choice == 7)
-}
-
-// $4C
-pub fn tile_transparent_fits(v: u8) -> bool
-    ensures { λ r. ⌜ r ≡ tileTransparentFits v ⌝ }
-{
-    v <= 15
-}
-
-// $68
-pub fn ula_control_fits(v: u8) -> bool
-    ensures { λ r. ⌜ r ≡ ulaControlFits v ⌝ }
-{
-    v / 2 % 32 == 0
-}
-
-// $6B
-pub fn tile_control_fits(v: u8) -> bool
-    ensures { λ r. ⌜ r ≡ tileControlFits v ⌝ }
-{
-    v % 16 == 0
-}
-
-// $2F
-pub fn x_high_fits(v: u8) -> bool
-    ensures { λ r. ⌜ r ≡ xHighFits v ⌝ }
-{
-    v <= 3
-}
-
-// $6E and $6F
-fn base_fits(v: u8) -> bool
-    ensures { λ r. ⌜ r ≡ baseFits v ⌝ }
-{
-    v < 64
-}
-
-// A clip's turn.
-fn turn_fits(v: u8) -> bool
-    ensures { λ r. ⌜ r ≡ turnFits v ⌝ }
-{
-    v <= 3
-}
-
-// $BF3B
-pub fn select_fits(v: u8) -> bool
-    ensures { λ r. ⌜ r ≡ selectFits v ⌝ }
-{
-    v < 128
-}
+use register_bounds::base_fits;
+use register_bounds::border_fits;
+use register_bounds::half_fits;
+use register_bounds::is_choice;
+use register_bounds::is_mask;
+use register_bounds::select_fits;
+use register_bounds::tile_control_fits;
+use register_bounds::tile_transparent_fits;
+use register_bounds::turn_fits;
+use register_bounds::ula_control_fits;
+use register_bounds::ula_y_fits;
+use register_bounds::x_high_fits;
 
 fn lawful_ula(u: Ula) -> bool
     ensures { λ r. ⌜ r ≡ lawfulUla u ⌝ }
@@ -93,7 +33,8 @@ fn lawful_palette(p: Palette) -> bool
 {
     let mask = is_mask(p.mask);
     let choice = is_choice(p.control);
-    mask & choice & (p.held | (p.half == 0))
+    let half = half_fits(p.held, p.half);
+    mask & choice & half
 }
 
 fn lawful_tiles(t: Tiles) -> bool
@@ -115,7 +56,7 @@ fn lawful_turns(t: Turns) -> bool
 fn lawful_ports(p: Ports) -> bool
     ensures { λ r. ⌜ r ≡ lawfulPorts p ⌝ }
 {
-    (p.border <= 7) & select_fits(p.select)
+    border_fits(p.border) & select_fits(p.select)
 }
 
 // Every entry is looked at, with no early exit, so that the loop can be vectorised.

@@ -1,10 +1,8 @@
-// A member's whole video state by value: its registers, what is lawful, reset and the next frame.
+// A member's whole video state by value: its registers, what their bits mean, what is lawful, and reset.
 mod bits;
 mod bounds;
-mod frame;
 mod initial;
 
-pub use bits::choice_of;
 pub use bits::columns_of;
 pub use bits::columns80;
 pub use bits::index_stays;
@@ -19,18 +17,8 @@ pub use bits::ula_on;
 pub use bits::ula_second_shown;
 pub use bits::width_of;
 pub use bits::x_offset;
-pub use bounds::is_choice;
-pub use bounds::is_mask;
 pub use bounds::lawful;
 pub use bounds::lawful_registers;
-pub use bounds::select_fits;
-pub use bounds::tile_control_fits;
-pub use bounds::tile_transparent_fits;
-pub use bounds::ula_control_fits;
-pub use bounds::ula_y_fits;
-pub use bounds::x_high_fits;
-pub use frame::advance;
-pub use frame::next_frame;
 pub use initial::reset;
 use reply::Reply;
 

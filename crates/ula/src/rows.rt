@@ -4,7 +4,7 @@ ghost use mathlib.Core.Bool.{true};
 ghost use Prim.Native.Nat.{ℕ, _/_, _<_, _≤_};
 ghost use lib.ListN.{length};
 ghost use Rattle.lists.specs.Tab.{tab};
-ghost use Rattle.state.specs.Bounds.{isMask};
+ghost use Rattle.register_bounds.specs.Bounds.{isMask};
 ghost use Rattle.surface.specs.Lines.{isLine};
 ghost use Rattle.ula_attribute.specs.Bounds.{MaskBounds};
 ghost use Rattle.ula.specs.Display.{pixelDot, loresDot, modeDot, displayDot, rowDot, ulaDot};

@@ -3,7 +3,7 @@ ghost use mathlib.Core.Path.{_≡_};
 ghost use mathlib.Core.Bool.{true, cond};
 ghost use Prim.Native.Nat.{_<_, _≤_};
 ghost use Rattle.state.specs.Bits.{ulaSecondShown};
-ghost use Rattle.state.specs.Bounds.{isMask};
+ghost use Rattle.register_bounds.specs.Bounds.{isMask};
 ghost use Rattle.surface.specs.Lines.{isLine};
 ghost use Rattle.ula.specs.Views.{viewOf, borderOf, ulaLine};
 ghost use Rattle.ula.specs.Bounds.{ViewBounds, UlaLineBounds, shownState};

@@ -2,7 +2,7 @@
 use Prim.Native.Nat.{ℕ}
 use mathlib.Core.Path.{_≡_}
 use mathlib.Core.Bool.{true}
-use Rattle.state.specs.Bounds.{isMask}
+use Rattle.register_bounds.specs.Bounds.{isMask}
 use Rattle.ula_attribute.specs.declared.schemes.Colours.{Colours}
 use Rattle.ula_attribute.specs.declared.schemes.Scheme.{Scheme}
 use Rattle.ula_attribute.specs.declared.schemes.Scheme.the-variants.{Plain, Next, Plus}

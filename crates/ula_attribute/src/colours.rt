@@ -2,7 +2,7 @@
 ghost use mathlib.Core.Path.{_≡_};
 ghost use mathlib.Core.Bool.{true, false};
 ghost use Prim.Native.Nat.{_≤_, _<_};
-ghost use Rattle.state.specs.Bounds.{isMask};
+ghost use Rattle.register_bounds.specs.Bounds.{isMask};
 ghost use Rattle.ula_attribute.specs.Index.{paperIndex, paperless};
 ghost use Rattle.ula_attribute.specs.Colours.{colourAt, paperColour, bitDot, borderNumber, borderDot};
 ghost use Rattle.ula_attribute.specs.Bounds.{indices, MaskBounds};

@@ -1,7 +1,7 @@
 // What of a state decides a colour, besides the palette and the ULAplus registers.
 ghost use mathlib.Core.Path.{_≡_};
 ghost use mathlib.Core.Bool.{true};
-ghost use Rattle.state.specs.Bounds.{isMask};
+ghost use Rattle.register_bounds.specs.Bounds.{isMask};
 ghost use Rattle.ula_attribute.specs.Schemes.{schemeOf, coloursOf};
 ghost use Rattle.ula_attribute.specs.Bounds.{MaskBounds};
 use state::Palette;

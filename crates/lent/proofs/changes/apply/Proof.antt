@@ -1,7 +1,7 @@
 -- Each change is the call of its kind, of a state that is lawful.
 use mathlib.Core.Path.{sym, ap, _∙_}
 use Rattle.state.specs.Answer.{done}
-use Rattle.state.proofs.Claims.{frame-done}
+use Rattle.frame.proofs.Claims.{frame-done}
 use Rattle.register_laws.proofs.Calls.{write-row, port-row}
 use Rattle.lent.specs.declared.changes.Change.{Change}
 use Rattle.lent.specs.Calls.{changed}

@@ -1,7 +1,6 @@
 -- The first x pixels are the dots of their columns, each stored twice.
 use Rattle.ula.proofs.Fills.{lores-fill}
-use Rattle.lists.proofs.Tab.{tab-ext}
-use Rattle.lists.proofs.Tab.{tab-none, tab-done, tab-pair}
+use Rattle.lists.proofs.Tab.{tab-ext, tab-none, tab-done, tab-pair}
 use Rattle.lists.specs.Tab.{tab}
 use lib.ListN.{length, take, getD, length-set}
 use mathlib.Core.Path.{_≡_, refl, _∙_}

@@ -1,0 +1,202 @@
+-- `write_numbered` matches the rows of the table one by one.
+use borrow.Author.Tests.{ne-eqb}
+use borrow.Author.Needs.{needs}
+use Rattle.register_tables.proofs.write_numbered.Statement.{statement}
+use Rattle.register_tables.proofs.write_numbered.Tie as tie
+
+write-peripheral-requires : tie.Need-write-peripheral-requires
+write-peripheral-requires c κs = search needs
+
+write-transparent-requires : tie.Need-write-transparent-requires
+write-transparent-requires c κs = search needs
+
+write-layers-requires : tie.Need-write-layers-requires
+write-layers-requires c κs = search needs
+
+write-ula-clip-requires : tie.Need-write-ula-clip-requires
+write-ula-clip-requires c κs = search needs
+
+write-tile-clip-requires : tie.Need-write-tile-clip-requires
+write-tile-clip-requires c κs = search needs
+
+write-turns-requires : tie.Need-write-turns-requires
+write-turns-requires c κs = search needs
+
+write-tile-x-high-requires : tie.Need-write-tile-x-high-requires
+write-tile-x-high-requires c κs = search needs
+
+write-tile-x-low-requires : tie.Need-write-tile-x-low-requires
+write-tile-x-low-requires c κs = search needs
+
+write-tile-y-requires : tie.Need-write-tile-y-requires
+write-tile-y-requires c κs = search needs
+
+write-ula-x-requires : tie.Need-write-ula-x-requires
+write-ula-x-requires c κs = search needs
+
+write-ula-y-requires : tie.Need-write-ula-y-requires
+write-ula-y-requires c κs = search needs
+
+write-index-requires : tie.Need-write-index-requires
+write-index-requires c κs = search needs
+
+write-eight-requires : tie.Need-write-eight-requires
+write-eight-requires c κs = search needs
+
+write-mask-requires : tie.Need-write-mask-requires
+write-mask-requires c κs = search needs
+
+write-control-requires : tie.Need-write-control-requires
+write-control-requires c κs = search needs
+
+write-nine-requires : tie.Need-write-nine-requires
+write-nine-requires c κs = search needs
+
+write-fallback-requires : tie.Need-write-fallback-requires
+write-fallback-requires c κs = search needs
+
+write-tile-transparent-requires : tie.Need-write-tile-transparent-requires
+write-tile-transparent-requires c κs = search needs
+
+write-ula-control-requires : tie.Need-write-ula-control-requires
+write-ula-control-requires c κs = search needs
+
+write-tile-control-requires : tie.Need-write-tile-control-requires
+write-tile-control-requires c κs = search needs
+
+write-tile-attribute-requires : tie.Need-write-tile-attribute-requires
+write-tile-attribute-requires c κs = search needs
+
+write-map-requires : tie.Need-write-map-requires
+write-map-requires c κs = search needs
+
+write-definitions-requires : tie.Need-write-definitions-requires
+write-definitions-requires c κs = search needs
+
+no-write-requires : tie.Need-no-write-requires
+no-write-requires c κs = search needs
+
+returns : tie.Need-returns
+returns c = rw (c .before .match .keys1) (c .write-peripheral .ensures)
+
+returns-2 : tie.Need-returns-2
+returns-2 c = rw (c .before .match .keys2) (c .write-transparent .ensures)
+
+returns-3 : tie.Need-returns-3
+returns-3 c = rw (c .before .match .keys3) (c .write-layers .ensures)
+
+returns-4 : tie.Need-returns-4
+returns-4 c = rw (c .before .match .keys4) (c .write-ula-clip .ensures)
+
+returns-5 : tie.Need-returns-5
+returns-5 c = rw (c .before .match .keys5) (c .write-tile-clip .ensures)
+
+returns-6 : tie.Need-returns-6
+returns-6 c = rw (c .before .match .keys6) (c .write-turns .ensures)
+
+returns-7 : tie.Need-returns-7
+returns-7 c = rw (c .before .match .keys7) (c .write-tile-x-high .ensures)
+
+returns-8 : tie.Need-returns-8
+returns-8 c = rw (c .before .match .keys8) (c .write-tile-x-low .ensures)
+
+returns-9 : tie.Need-returns-9
+returns-9 c = rw (c .before .match .keys9) (c .write-tile-y .ensures)
+
+returns-10 : tie.Need-returns-10
+returns-10 c = rw (c .before .match .keys10) (c .write-ula-x .ensures)
+
+returns-11 : tie.Need-returns-11
+returns-11 c = rw (c .before .match .keys11) (c .write-ula-y .ensures)
+
+returns-12 : tie.Need-returns-12
+returns-12 c = rw (c .before .match .keys12) (c .write-index .ensures)
+
+returns-13 : tie.Need-returns-13
+returns-13 c = rw (c .before .match .keys13) (c .write-eight .ensures)
+
+returns-14 : tie.Need-returns-14
+returns-14 c = rw (c .before .match .keys14) (c .write-mask .ensures)
+
+returns-15 : tie.Need-returns-15
+returns-15 c = rw (c .before .match .keys15) (c .write-control .ensures)
+
+returns-16 : tie.Need-returns-16
+returns-16 c = rw (c .before .match .keys16) (c .write-nine .ensures)
+
+returns-17 : tie.Need-returns-17
+returns-17 c = rw (c .before .match .keys17) (c .write-fallback .ensures)
+
+returns-18 : tie.Need-returns-18
+returns-18 c = rw (c .before .match .keys18) (c .write-tile-transparent .ensures)
+
+returns-19 : tie.Need-returns-19
+returns-19 c = rw (c .before .match .keys19) (c .write-ula-control .ensures)
+
+returns-20 : tie.Need-returns-20
+returns-20 c = rw (c .before .match .keys20) (c .write-tile-control .ensures)
+
+returns-21 : tie.Need-returns-21
+returns-21 c = rw (c .before .match .keys21) (c .write-tile-attribute .ensures)
+
+returns-22 : tie.Need-returns-22
+returns-22 c = rw (c .before .match .keys22) (c .write-map .ensures)
+
+returns-23 : tie.Need-returns-23
+returns-23 c = rw (c .before .match .keys23) (c .write-definitions .ensures)
+
+returns-24 : tie.Need-returns-24
+returns-24 c = let r = c .before .match .rest in simp (ne-eqb _ _ (r .1), ne-eqb _ _ (r .0 .1), ne-eqb _ _ (r .0 .0 .1), ne-eqb _ _ (r .0 .0 .0 .1), ne-eqb _ _ (r .0 .0 .0 .0 .1), ne-eqb _ _ (r .0 .0 .0 .0 .0 .1), ne-eqb _ _ (r .0 .0 .0 .0 .0 .0 .1), ne-eqb _ _ (r .0 .0 .0 .0 .0 .0 .0 .1), ne-eqb _ _ (r .0 .0 .0 .0 .0 .0 .0 .0 .1), ne-eqb _ _ (r .0 .0 .0 .0 .0 .0 .0 .0 .0 .1), ne-eqb _ _ (r .0 .0 .0 .0 .0 .0 .0 .0 .0 .0 .1), ne-eqb _ _ (r .0 .0 .0 .0 .0 .0 .0 .0 .0 .0 .0 .1), ne-eqb _ _ (r .0 .0 .0 .0 .0 .0 .0 .0 .0 .0 .0 .0 .1), ne-eqb _ _ (r .0 .0 .0 .0 .0 .0 .0 .0 .0 .0 .0 .0 .0 .1), ne-eqb _ _ (r .0 .0 .0 .0 .0 .0 .0 .0 .0 .0 .0 .0 .0 .0 .1), ne-eqb _ _ (r .0 .0 .0 .0 .0 .0 .0 .0 .0 .0 .0 .0 .0 .0 .0 .1), ne-eqb _ _ (r .0 .0 .0 .0 .0 .0 .0 .0 .0 .0 .0 .0 .0 .0 .0 .0 .1), ne-eqb _ _ (r .0 .0 .0 .0 .0 .0 .0 .0 .0 .0 .0 .0 .0 .0 .0 .0 .0 .1), ne-eqb _ _ (r .0 .0 .0 .0 .0 .0 .0 .0 .0 .0 .0 .0 .0 .0 .0 .0 .0 .0 .1), ne-eqb _ _ (r .0 .0 .0 .0 .0 .0 .0 .0 .0 .0 .0 .0 .0 .0 .0 .0 .0 .0 .0 .1), ne-eqb _ _ (r .0 .0 .0 .0 .0 .0 .0 .0 .0 .0 .0 .0 .0 .0 .0 .0 .0 .0 .0 .0 .1), ne-eqb _ _ (r .0 .0 .0 .0 .0 .0 .0 .0 .0 .0 .0 .0 .0 .0 .0 .0 .0 .0 .0 .0 .0 .1), ne-eqb _ _ (r .0 .0 .0 .0 .0 .0 .0 .0 .0 .0 .0 .0 .0 .0 .0 .0 .0 .0 .0 .0 .0 .0 .1)) (c .no-write .ensures)
+
+pub write-numbered-spec : {M : Type 1} → statement M
+write-numbered-spec =
+    tie.close
+    (tie.spec
+    write-peripheral-requires
+    write-transparent-requires
+    write-layers-requires
+    write-ula-clip-requires
+    write-tile-clip-requires
+    write-turns-requires
+    write-tile-x-high-requires
+    write-tile-x-low-requires
+    write-tile-y-requires
+    write-ula-x-requires
+    write-ula-y-requires
+    write-index-requires
+    write-eight-requires
+    write-mask-requires
+    write-control-requires
+    write-nine-requires
+    write-fallback-requires
+    write-tile-transparent-requires
+    write-ula-control-requires
+    write-tile-control-requires
+    write-tile-attribute-requires
+    write-map-requires
+    write-definitions-requires
+    no-write-requires
+    returns
+    returns-2
+    returns-3
+    returns-4
+    returns-5
+    returns-6
+    returns-7
+    returns-8
+    returns-9
+    returns-10
+    returns-11
+    returns-12
+    returns-13
+    returns-14
+    returns-15
+    returns-16
+    returns-17
+    returns-18
+    returns-19
+    returns-20
+    returns-21
+    returns-22
+    returns-23
+    returns-24)

@@ -1,0 +1,8 @@
+-- What no single call states of replies.
+use mathlib.Core.Path.{_≡_}
+use Rattle.reply.specs.Reply.{replyNumber}
+use Rattle.reply.specs.declared.Reply.{Reply}
+
+-- the number tells the reply: two replies with one number are the same reply
+abbrev pub NumberTells : Type 0
+NumberTells = (a b : Reply) → replyNumber a ≡ replyNumber b → a ≡ b
