@@ -25,9 +25,9 @@ use Rattle.register_bounds.specs.Bounds.{isMask}
 use Rattle.surface.specs.Lines.{isLine}
 use Rattle.surface.specs.declared.lines.LineNumber.{LineNumber}
 use Rattle.colour.specs.Bytes.{widened}
-use Rattle.ula.specs.Views.{ulaPalette}
-use Rattle.ula.specs.Display.{ulaDot}
-use Rattle.ula.specs.Bounds.{shownState}
+use Rattle.ula_view.specs.Views.{ulaPalette}
+use Rattle.ula.specs.Lines.{ulaDot}
+use Rattle.ula_view.specs.Bounds.{shownState}
 use Rattle.ula.proofs.Parts.{shown-dots}
 use Rattle.tilemap.specs.Dots.{tileDot}
 use Rattle.tilemap.specs.Setup.{setupOf, windowOf}

@@ -10,7 +10,7 @@ ghost use Rattle.state.specs.Bits.{ulaSecondShown, tileSecondShown};
 ghost use Rattle.surface.specs.Lines.{isLine};
 ghost use Rattle.record_layout.specs.Places.{ulaFirstPlace, ulaSecondPlace, tileFirstPlace, tileSecondPlace};
 ghost use Rattle.record_layout.specs.Record.{stateIn};
-ghost use Rattle.ula.specs.Display.{ulaDot};
+ghost use Rattle.ula.specs.Lines.{ulaDot};
 ghost use Rattle.line.specs.Lines.{composedLine, drawnLine};
 ghost use Rattle.line.specs.Replies.{lineReply, lengthsReply, stateReply, drawnIf};
 ghost use Rattle.lent.specs.Drawn.{lentDrawReply, lentDrawn};

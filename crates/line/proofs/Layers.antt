@@ -17,7 +17,7 @@ use Rattle.state.specs.declared.Ula.{Ula}
 use Rattle.state.specs.declared.Tiles.{Tiles}
 use Rattle.surface.specs.Dots.{inside, clipped, topDot}
 use Rattle.surface.specs.declared.lines.LineNumber.{LineNumber}
-use Rattle.ula.specs.Display.{ulaDot}
+use Rattle.ula.specs.Lines.{ulaDot}
 use Rattle.tilemap.specs.Index.{widthOf, tileEntry, tileIndex, ulaAbove}
 use Rattle.tilemap.specs.Dots.{TileDot, clear, shows, acrossOf, tileDot}
 use Rattle.tilemap.specs.Shades.{tileRow}

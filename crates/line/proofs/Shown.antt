@@ -12,9 +12,9 @@ use Rattle.state.specs.Bits.{ulaOn, ulaSecondShown, tilemapOn, tileSecondShown,
 use Rattle.state.specs.declared.State.{State}
 use Rattle.surface.specs.Dots.{inside}
 use Rattle.surface.specs.declared.lines.LineNumber.{LineNumber}
-use Rattle.ula.specs.Views.{ulaPalette}
-use Rattle.ula.specs.Display.{ulaDot}
-use Rattle.ula.specs.Bounds.{shownState}
+use Rattle.ula_view.specs.Views.{ulaPalette}
+use Rattle.ula.specs.Lines.{ulaDot}
+use Rattle.ula_view.specs.Bounds.{shownState}
 use Rattle.ula.proofs.Parts.{twice, shown-dots}
 use Rattle.tilemap.specs.Dots.{tileDot}
 use Rattle.tilemap.specs.Setup.{setupOf, windowOf}

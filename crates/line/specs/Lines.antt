@@ -11,7 +11,7 @@ use Rattle.state.specs.declared.Ula.{Ula}
 use Rattle.state.specs.declared.Tiles.{Tiles}
 use Rattle.surface.specs.Dots.{topDot}
 use Rattle.surface.specs.declared.lines.LineNumber.{LineNumber}
-use Rattle.ula.specs.Display.{ulaDot}
+use Rattle.ula.specs.Lines.{ulaDot}
 use Rattle.tilemap.specs.Dots.{TileDot, tileDot}
 use Rattle.tilemap.specs.Setup.{setupOf, windowOf}
 use Rattle.line.specs.Compose.{composed}

@@ -16,7 +16,7 @@ use Rattle.state.specs.declared.Palette.{Palette}
 use Rattle.state.specs.declared.Ports.{Ports}
 use Rattle.surface.specs.Lines.{isLine}
 use Rattle.surface.specs.declared.lines.LineNumber.{LineNumber}
-use Rattle.ula_address.specs.Modes.{modeOf, isMissing}
+use Rattle.ula_mode.specs.Modes.{modeOf, isMissing}
 
 -- 1: line above 255
 unfoldable pub lineReply : LineNumber → Reply

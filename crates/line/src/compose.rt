@@ -91,6 +91,6 @@ pub fn compose_row(
 {
     let mut dots = [0u16; 640];
     row_dots(row, columns80, skew, &mut dots);
-    surface::clip_dots(left, right, &mut dots);
+    surface_rows::clip_dots(left, right, &mut dots);
     compose_dots(stencil, &dots, out);
 }

@@ -83,7 +83,7 @@ fn layered(
         compose_row(stencil, &row, t.columns80, t.x % 8, w.left, w.right, out);
     } else {
         if stencil {
-            surface::paint(512, out);
+            surface_rows::paint(512, out);
         }
     }
 }
@@ -158,7 +158,7 @@ fn composed_chosen<'a>(
     ensures { λ r. ⌜ now (out .exit) ≡ composedLine (stateShown v (cond (ulaSecondShown (v .palette)) (now (ulasecond .entry)) (now (ulafirst .entry)))
         (cond (tileSecondShown (v .tiles)) (now (tilesecond .entry)) (now (tilefirst .entry)))) (now (ula .entry)) (now (tile .entry)) line ⌝ }
 {
-    let ulapal = ula::ula_palette(v.palette, ulafirst, ulasecond);
+    let ulapal = ula_view::ula_palette(v.palette, ulafirst, ulasecond);
     let tilepal = tile_palette(v.tiles, tilefirst, tilesecond);
     composed_shown(v, ulapal, tilepal, ula, tile, line, out);
 }

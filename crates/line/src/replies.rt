@@ -60,7 +60,7 @@ fn next_with_plus(p: Palette, ports: Ports) -> bool
 fn no_mode(u: Ula, ports: Ports) -> bool
     ensures { λ r. ⌜ r ≡ noMode u ports ⌝ }
 {
-    let missing = ula_address::is_missing(ula_address::mode_of(u, ports));
+    let missing = ula_mode::is_missing(ula_mode::mode_of(u, ports));
     state::ula_on(u) & missing
 }
 

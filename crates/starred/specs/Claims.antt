@@ -6,10 +6,12 @@ use mathlib.Core.Bool.{Bool, true, _&&_}
 use lib.Dec.{eqb}
 use Rattle.colour.specs.Bytes.{widened, plusColour}
 use Rattle.colour.specs.Screen.{eightBits, screenOf}
-use Rattle.ula_address.specs.Addresses.{byteAddress, attributeAddress, hiresAddress, loresAddress}
-use Rattle.ula_address.specs.declared.modes.Mode.the-variants.{HighColour}
-use Rattle.ula_attribute.specs.Index.{inkIndex, paperIndex, hiresBorderIndex}
-use Rattle.ula_attribute.specs.declared.schemes.Scheme.the-variants.{Next}
+use Rattle.ula_byte.specs.Bytes.{byteAddress, hiresAddress, loresAddress}
+use Rattle.ula_address.specs.Addresses.{attributeAddress}
+use Rattle.ula_mode.specs.declared.modes.Mode.the-variants.{HighColour}
+use Rattle.ula_index.specs.Index.{inkIndex, paperIndex}
+use Rattle.ula_border.specs.Border.{hiresBorderIndex}
+use Rattle.ula_scheme.specs.declared.schemes.Scheme.the-variants.{Next}
 use Rattle.tilemap.specs.Index.{columnOf, rowOf}
 
 pub record Sample : Type 0 where

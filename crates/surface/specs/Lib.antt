@@ -1,3 +1,2 @@
 pub mod Lines
 pub mod Dots
-pub mod Rows

@@ -1,7 +1,6 @@
-// What is drawn: the lines of the surface, the dots of a line and rows of them, before any layer.
+// What is drawn: the lines of the surface and the dots of a line, before any layer.
 mod dots;
 mod lines;
-mod rows;
 
 pub use dots::is_inside;
 pub use dots::show;
@@ -10,5 +9,3 @@ pub use lines::LineNumber;
 pub use lines::display_line;
 pub use lines::in_display;
 pub use lines::is_line;
-pub use rows::clip_dots;
-pub use rows::paint;

@@ -1,3 +1,2 @@
 pub mod Parts
-pub mod Fills
-pub mod Shows
+pub mod Frames

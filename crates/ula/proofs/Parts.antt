@@ -1,34 +1,19 @@
--- What a line shows of the state, put together from its parts.
+-- The dots of a line depend on no more of a state than its parts that show, and on no palette but the one shown.
 use Prim.Native.Nat.{ℕ}
 use mathlib.Core.Path.{_≡_, refl, sym, ap, _∙_}
 use mathlib.Core.List.{List}
 use mathlib.Core.Bool.{Bool, true, false, cond}
 use Rattle.lists.specs.Tab.{tab}
-use Rattle.state.specs.Bits.{ulaOn, ulaSecondShown}
+use Rattle.state.specs.Bits.{ulaSecondShown}
 use Rattle.state.specs.declared.State.{State}
 use Rattle.state.specs.declared.Ula.{Ula}
 use Rattle.state.specs.declared.Palette.{Palette}
 use Rattle.state.specs.declared.Ports.{Ports}
-use Rattle.surface.specs.Lines.{inDisplay, displayLine}
 use Rattle.surface.specs.declared.lines.LineNumber.{LineNumber}
-use Rattle.ula_attribute.specs.Schemes.{coloursOf}
-use Rattle.ula_attribute.specs.declared.schemes.Colours.{Colours}
-use Rattle.ula.specs.Views.{ulaPalette, viewOf, borderOf, ulaLine}
-use Rattle.ula.specs.Bounds.{shownState}
-use Rattle.ula.specs.Display.{rowDot, ulaDot}
-use Rattle.ula.specs.declared.views.View.{View}
-use Rattle.ula.specs.declared.views.UlaLine.{UlaLine}
-
-abbrev assembled : Bool → Bool → ℕ → View → Colours → UlaLine
-assembled on display border view colours = record { on = on; display = display; border = border; view = view; colours = colours }
-
-pub line-of : (s : State) (pal : List ℕ) (line : LineNumber) (on display : Bool) (border : ℕ) (view : View) (colours : Colours)
-    → on ≡ ulaOn (s .ula) → display ≡ inDisplay line
-    → border ≡ borderOf view colours pal (s .plus) (s .ports .border) → view ≡ viewOf (s .ula) (s .ports) (s .ulaclip) (displayLine line)
-    → colours ≡ coloursOf (s .ula) (s .palette) (s .ports) (s .frame) → assembled on display border view colours ≡ ulaLine s pal line
-unfolding ulaLine
-line-of s pal line on display border view colours o d b p c =
-    cc
+use Rattle.ula_view.specs.Views.{ulaPalette, ulaLine}
+use Rattle.ula_view.specs.Bounds.{shownState}
+use Rattle.ula_view.specs.declared.views.UlaLine.{UlaLine}
+use Rattle.ula.specs.Lines.{rowDot, ulaDot}
 
 pub twice : (pal : List ℕ) (b : Bool) → cond b pal pal ≡ pal
 twice pal true = refl

@@ -1,4 +1,1 @@
-pub mod Views
-pub mod Display
-pub mod Rows
-pub mod Bounds
+pub mod Lines

@@ -1,4 +1,2 @@
-pub mod Modes
-pub mod Scrolls
 pub mod Addresses
-pub mod Bounds
+pub mod Claims

@@ -4,9 +4,9 @@ use mathlib.Core.Path.{_≡_}
 use mathlib.Core.List.{List}
 use mathlib.Core.Bool.{true, false}
 use Rattle.surface.specs.Dots.{shown}
-use Rattle.ula_attribute.specs.Index.{inkIndex, paperIndex, swapped, inkShown, bitIndex}
+use Rattle.ula_index.specs.Index.{inkIndex, paperIndex, swapped, inkShown, bitIndex}
 use Rattle.ula_attribute.specs.Colours.{colourAt, paperColour, bitColour, bitDot}
-use Rattle.ula_attribute.specs.declared.schemes.Colours.{Colours}
+use Rattle.ula_scheme.specs.declared.schemes.Colours.{Colours}
 
 module _ (l : Colours) (pal plus : List ℕ) (a : ℕ) where
   abbrev inkDot : ℕ

@@ -5,10 +5,11 @@ use mathlib.Core.Bool.{Bool, cond}
 use lib.ListN.{getD}
 use Rattle.colour.specs.Bytes.{plusColour}
 use Rattle.surface.specs.Dots.{shown}
-use Rattle.ula_attribute.specs.Index.{bitIndex, inkShown, borderIndex, hiresBorderIndex, paperless}
-use Rattle.ula_attribute.specs.declared.schemes.Colours.{Colours}
-use Rattle.ula_attribute.specs.declared.schemes.Scheme.{Scheme}
-use Rattle.ula_attribute.specs.declared.schemes.Scheme.the-variants.{Plain, Next, Plus}
+use Rattle.ula_index.specs.Index.{bitIndex, inkShown, paperless}
+use Rattle.ula_border.specs.Border.{borderNumber}
+use Rattle.ula_scheme.specs.declared.schemes.Colours.{Colours}
+use Rattle.ula_scheme.specs.declared.schemes.Scheme.{Scheme}
+use Rattle.ula_scheme.specs.declared.schemes.Scheme.the-variants.{Plain, Next, Plus}
 
 -- an index of the ULA palette, or of the 64 ULAplus registers
 abbrev pub colourAt : Scheme → List ℕ → List ℕ → ℕ → ℕ
@@ -28,10 +29,6 @@ bitColour l pal plus a bit =
 
 unfoldable pub bitDot : Colours → List ℕ → List ℕ → ℕ → ℕ → ℕ
 bitDot l pal plus a bit = shown (l .transparent) (bitColour l pal plus a bit)
-
--- the border's index; a is mode 6's attribute
-unfoldable pub borderNumber : Scheme → ℕ → Bool → ℕ → ℕ → ℕ
-borderNumber k mask hires a border = cond hires (hiresBorderIndex k mask a) (borderIndex k border)
 
 unfoldable pub borderDot : Colours → List ℕ → List ℕ → Bool → ℕ → ℕ → ℕ
 borderDot l pal plus hires a border = shown (l .transparent) (paperColour l pal plus (borderNumber (l .scheme) (l .mask) hires a border))

@@ -1,4 +1,1 @@
-pub mod Schemes
-pub mod Index
 pub mod Colours
-pub mod Bounds

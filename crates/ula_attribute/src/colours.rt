@@ -1,19 +1,18 @@
 // The colours of an attribute and of the border, as dots.
 ghost use mathlib.Core.Path.{_≡_};
-ghost use mathlib.Core.Bool.{true, false};
 ghost use Prim.Native.Nat.{_≤_, _<_};
-ghost use Rattle.register_bounds.specs.Bounds.{isMask};
-ghost use Rattle.ula_attribute.specs.Index.{paperIndex, paperless};
-ghost use Rattle.ula_attribute.specs.Colours.{colourAt, paperColour, bitDot, borderNumber, borderDot};
-ghost use Rattle.ula_attribute.specs.Bounds.{indices, MaskBounds};
-use crate::index::border_index;
-use crate::index::hires_border_index;
-use crate::index::ink_index;
-use crate::index::is_paperless;
-use crate::index::is_swapped;
-use crate::index::paper_index;
-use crate::schemes::Colours;
-use crate::schemes::Scheme;
+ghost use Rattle.ula_scheme.specs.Bounds.{MaskBounds};
+ghost use Rattle.ula_index.specs.Index.{paperIndex};
+ghost use Rattle.ula_index.specs.Bounds.{indices};
+ghost use Rattle.ula_border.specs.Border.{borderNumber};
+ghost use Rattle.ula_attribute.specs.Colours.{colourAt, paperColour, bitDot, borderDot};
+use ula_border::border_number;
+use ula_index::ink_index;
+use ula_index::is_paperless;
+use ula_index::is_swapped;
+use ula_index::paper_index;
+use ula_scheme::Colours;
+use ula_scheme::Scheme;
 
 fn colour_at(k: Scheme, pal: &[u16; 256], plus: &[u8; 64], i: usize) -> u16
     requires { ⌜ i < indices k ⌝ }
@@ -63,17 +62,6 @@ pub fn bit_dots(l: Colours, pal: &[u16; 256], plus: &[u8; 64], a: u8) -> Dots
             bit1: ink,
             bit0: paper,
         }
-    }
-}
-
-fn border_number(k: Scheme, mask: u8, hires: bool, a: u8, border: u8) -> usize
-    requires { ⌜ (isMask mask ≡ true) × (paperless k mask ≡ false) × (border ≤ 7) ⌝ }
-    ensures { λ r. ⌜ (r ≡ borderNumber k mask hires a border) × (r < indices k) ⌝ }
-{
-    if hires {
-        hires_border_index(k, mask, a)
-    } else {
-        border_index(k, border)
     }
 }
 

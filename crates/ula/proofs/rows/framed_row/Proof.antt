@@ -1,5 +1,5 @@
 -- The sides of the border and the display between them, each part after the one before it.
-use Rattle.ula.proofs.Shows.{line-framed}
+use Rattle.ula.proofs.Frames.{line-framed}
 use mathlib.Core.Path.{refl}
 use borrow.Author.Needs.{needs}
 use Rattle.ula.proofs.rows.framed_row.Statement.{statement}

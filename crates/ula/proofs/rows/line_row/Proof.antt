@@ -1,5 +1,5 @@
 -- The display in its border, the border alone, or nothing.
-use Rattle.ula.proofs.Shows.{line-border, line-off}
+use Rattle.ula.proofs.Frames.{line-border, line-off}
 use borrow.Author.Needs.{needs}
 use Rattle.ula.proofs.rows.line_row.Statement.{statement}
 use Rattle.ula.proofs.rows.line_row.Tie as tie

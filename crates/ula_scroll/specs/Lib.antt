@@ -1,0 +1,3 @@
+pub mod Scrolls
+pub mod Columns
+pub mod Bounds
