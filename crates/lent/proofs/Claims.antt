@@ -29,7 +29,7 @@ use Rattle.record_layout.specs.Version.{current}
 use Rattle.record_layout.proofs.Claims.{readLawful}
 use Rattle.record_layout.proofs.RoundTrip.{record-read, answer, state-lawful}
 use Rattle.record_layout.proofs.Stages.{accepts, refuses}
-use Rattle.line.specs.Replies.{lineReply, lengthsReply, stateReply, loresWithTiles, nextWithPlus, noMode, farOffset}
+use Rattle.line_replies.specs.Replies.{lineReply, lengthsReply, stateReply, loresWithTiles, nextWithPlus, noMode, farOffset}
 use Rattle.lent.specs.declared.changes.Change.{Change}
 use Rattle.lent.specs.declared.changes.Change.the-variants.{NextFrame, Register, Port}
 use Rattle.lent.specs.declared.queries.Query.{Query}

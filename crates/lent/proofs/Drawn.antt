@@ -30,16 +30,16 @@ use Rattle.ula.specs.Lines.{ulaDot}
 use Rattle.ula_view.specs.Bounds.{shownState}
 use Rattle.ula.proofs.Parts.{shown-dots}
 use Rattle.tilemap.specs.Dots.{tileDot}
-use Rattle.tilemap.specs.Setup.{setupOf, windowOf}
+use Rattle.tilemap_setup.specs.Setup.{setupOf, windowOf}
 use Rattle.record_layout.specs.Fields.{pair, rowAt}
 use Rattle.record_layout.specs.Places.{ulaFirstPlace, ulaSecondPlace, tileFirstPlace, tileSecondPlace}
 use Rattle.record_layout.specs.Record.{stateAs, stateIn, readRecord}
 use Rattle.record_layout.proofs.RoundTrip.{long, answer, state-lawful}
-use Rattle.line.specs.Lines.{tilePalette, stencilOn, tileDotOf, composedLine, finished, drawnLine}
-use Rattle.line.specs.Replies.{lineReply, lengthsReply, stateReply, drawnIf}
-use Rattle.line.specs.Compose.{composed}
-use Rattle.line.proofs.Exits.{line-met, lengths-met, left}
-use Rattle.line.proofs.Shaded.{shown-colours}
+use Rattle.line.specs.Lines.{tilePalette, tileDotOf, composedLine, drawnLine}
+use Rattle.line_dots.specs.Compose.{stencilOn, finished, composed}
+use Rattle.line_replies.specs.Replies.{lineReply, lengthsReply, stateReply, drawnIf}
+use Rattle.line_replies.proofs.Exits.{line-met, lengths-met, left}
+use Rattle.line_dots.proofs.Shaded.{shown-colours}
 use Rattle.line.proofs.Layers.{layered-line, finished-line}
 use Rattle.line.proofs.Shown.{line-without}
 use Rattle.lent.specs.Bounds.{RecordBounds, tilesLaid}

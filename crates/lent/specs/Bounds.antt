@@ -8,8 +8,8 @@ use Rattle.lists.specs.Tab.{tab}
 use Rattle.state.specs.declared.State.{State}
 use Rattle.state.specs.Lawful.{lawfulState}
 use Rattle.surface.specs.declared.lines.LineNumber.{LineNumber}
-use Rattle.line.specs.Compose.{composed}
-use Rattle.line.specs.Lines.{stencilOn, tilePalette, tileDotOf}
+use Rattle.line_dots.specs.Compose.{composed, stencilOn}
+use Rattle.line.specs.Lines.{tilePalette, tileDotOf}
 use Rattle.record_layout.specs.Record.{recordLength, stateIn}
 
 -- as many bytes as a record has, and a lawful state in them

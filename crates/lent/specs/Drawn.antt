@@ -7,7 +7,7 @@ use Rattle.reply.specs.First.{firstHit}
 use Rattle.surface.specs.declared.lines.LineNumber.{LineNumber}
 use Rattle.record_layout.specs.Record.{readRecord}
 use Rattle.line.specs.Lines.{drawnLine}
-use Rattle.line.specs.Replies.{lineReply, lengthsReply, stateReply, drawnIf}
+use Rattle.line_replies.specs.Replies.{lineReply, lengthsReply, stateReply, drawnIf}
 
 -- 1; 2, 3; 13; then what the state in the record is refused for: 6, 7, 5, 8
 unfoldable pub lentDrawReply : LineNumber → ℕ → ℕ → ℕ → List ℕ → Reply

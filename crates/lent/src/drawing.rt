@@ -12,7 +12,7 @@ ghost use Rattle.record_layout.specs.Places.{ulaFirstPlace, ulaSecondPlace, til
 ghost use Rattle.record_layout.specs.Record.{stateIn};
 ghost use Rattle.ula.specs.Lines.{ulaDot};
 ghost use Rattle.line.specs.Lines.{composedLine, drawnLine};
-ghost use Rattle.line.specs.Replies.{lineReply, lengthsReply, stateReply, drawnIf};
+ghost use Rattle.line_replies.specs.Replies.{lineReply, lengthsReply, stateReply, drawnIf};
 ghost use Rattle.lent.specs.Drawn.{lentDrawReply, lentDrawn};
 ghost use Rattle.lent.specs.Bounds.{RecordBounds, tilesLaid};
 use record_parts::places;
@@ -69,7 +69,7 @@ fn lay_tiles(bytes: &[u8], bank: &[u8], line: LineNumber, dots: &mut [u16])
     let t = record_parts::tiles_at(bytes);
     let clip = record_parts::clip_at(bytes, places::TILE_CLIP);
     let pal = record_parts::colours_at(bytes, tile_place(t));
-    line::tiles_over(u, t, &clip, &pal, bank, line, dots);
+    line_tiles::tiles_over(u, t, &clip, &pal, bank, line, dots);
 }
 
 // The composed line, by the layers of `line`. Where the tilemap is off its palette is not read, as one call with both palettes would
@@ -92,7 +92,7 @@ fn draw_line(bytes: &[u8], ula: &[u8], tile: &[u8], line: LineNumber, dots: &mut
 {
     lay_layers(bytes, ula, tile, line, dots);
     let u = record_parts::ula_at(bytes);
-    line::finish_line(colour::widen(u.fallback), dots);
+    line_dots::finish_line(colour::widen(u.fallback), dots);
 }
 
 // The line of a record that is judged, or what the state in it is refused for.
@@ -105,7 +105,7 @@ fn draw_judged(bytes: &[u8], ula: &[u8], tile: &[u8], line: LineNumber, dots: &m
     let t = record_parts::tiles_at(bytes);
     let p = record_parts::palette_at(bytes);
     let ports = record_parts::ports_at(bytes);
-    let r = line::state_reply(u, t, p, ports);
+    let r = line_replies::state_reply(u, t, p, ports);
     if number(r) == 0 {
         draw_line(bytes, ula, tile, line, dots);
     }
@@ -116,8 +116,8 @@ fn draw_judged(bytes: &[u8], ula: &[u8], tile: &[u8], line: LineNumber, dots: &m
 fn early_reply(line: LineNumber, ula: usize, tile: usize, dots: usize, stored: Reply) -> Reply
     ensures { λ r. ⌜ r ≡ firstHit (lineReply line ∷ lengthsReply ula tile dots ∷ stored ∷ []) ⌝ }
 {
-    let lengths = line::lengths_reply(ula, tile, dots);
-    first_of(line::line_reply(line), first_of(lengths, stored))
+    let lengths = line_replies::lengths_reply(ula, tile, dots);
+    first_of(line_replies::line_reply(line), first_of(lengths, stored))
 }
 
 // The 640 dots of a line of the state in a record, or the reply that refuses it and leaves the lent line.

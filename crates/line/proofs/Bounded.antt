@@ -9,7 +9,7 @@ use Rattle.state.specs.declared.State.{State}
 use Rattle.line.specs.Lines.{tilePalette}
 use Rattle.line.specs.Shown.{shownOf, ShownBounds}
 use Rattle.line.specs.declared.parts.Shown.{Shown}
-use Rattle.line.proofs.Shaded.{shown-colours}
+use Rattle.line_dots.proofs.Shaded.{shown-colours}
 
 pub bounded : (s : State) → lawfulState s ≡ true → ShownBounds (shownOf s) (tilePalette s)
 unfolding tilePalette

@@ -1,5 +1,3 @@
-pub mod Shaded
 pub mod Bounded
 pub mod Layers
 pub mod Shown
-pub mod Exits

@@ -17,12 +17,13 @@ use Rattle.ula.specs.Lines.{ulaDot}
 use Rattle.ula_view.specs.Bounds.{shownState}
 use Rattle.ula.proofs.Parts.{twice, shown-dots}
 use Rattle.tilemap.specs.Dots.{tileDot}
-use Rattle.tilemap.specs.Setup.{setupOf, windowOf}
-use Rattle.line.specs.Compose.{composed}
-use Rattle.line.specs.Lines.{tilePalette, stencilOn, tileDotOf, composedDot, composedLine}
+use Rattle.tilemap_setup.specs.Setup.{setupOf, windowOf}
+use Rattle.line_dots.specs.Compose.{composed, stencilOn}
+use Rattle.line.specs.Lines.{tilePalette, tileDotOf, composedDot, composedLine}
 use Rattle.line.specs.Shown.{shownOf, stateShown}
 use Rattle.line.specs.declared.parts.Shown.{Shown}
-use Rattle.line.proofs.Layers.{layered-bare, layered-line}
+use Rattle.line_tiles.proofs.Laid.{layered-bare}
+use Rattle.line.proofs.Layers.{layered-line}
 
 module _ (ula tile : List ℕ) (line : LineNumber) where
   -- with the tilemap off

@@ -1,28 +1,21 @@
 -- What is drawn: a line as 640 dots, from the two banks and the state.
 use Prim.Native.Nat.{ℕ}
 use mathlib.Core.List.{List}
-use mathlib.Core.Bool.{Bool, cond, _&&_}
-use lib.ListN.{getD}
+use mathlib.Core.Bool.{cond}
 use Rattle.lists.specs.Tab.{tab}
 use Rattle.colour.specs.Bytes.{widened}
-use Rattle.state.specs.Bits.{ulaOn, stencilSet, tilemapOn, tileSecondShown}
+use Rattle.state.specs.Bits.{ulaOn, tileSecondShown}
 use Rattle.state.specs.declared.State.{State}
-use Rattle.state.specs.declared.Ula.{Ula}
-use Rattle.state.specs.declared.Tiles.{Tiles}
 use Rattle.surface.specs.Dots.{topDot}
 use Rattle.surface.specs.declared.lines.LineNumber.{LineNumber}
 use Rattle.ula.specs.Lines.{ulaDot}
 use Rattle.tilemap.specs.Dots.{TileDot, tileDot}
-use Rattle.tilemap.specs.Setup.{setupOf, windowOf}
-use Rattle.line.specs.Compose.{composed}
+use Rattle.tilemap_setup.specs.Setup.{setupOf, windowOf}
+use Rattle.line_dots.specs.Compose.{stencilOn, composed}
 
 -- $6B: bit 4 the tilemap palette shown
 unfoldable pub tilePalette : State → List ℕ
 tilePalette s = cond (tileSecondShown (s .tiles)) (s .tilesecond) (s .tilefirst)
-
--- $68: bit 0 stencil, with both on
-abbrev pub stencilOn : Ula → Tiles → Bool
-stencilOn u t = stencilSet u && ulaOn u && tilemapOn t
 
 -- dot k of a line of the tilemap
 unfoldable pub tileDotOf : State → List ℕ → LineNumber → ℕ → TileDot
@@ -36,10 +29,6 @@ composedDot s ula tile line k = composed (stencilOn (s .ula) (s .tiles)) (tilePa
 -- the composed line
 unfoldable pub composedLine : State → List ℕ → List ℕ → LineNumber → List ℕ
 composedLine s ula tile line = tab (composedDot s ula tile line) 640
-
--- the fallback over a composed line
-unfoldable pub finished : ℕ → List ℕ → List ℕ
-finished fallback row = tab (λ (k : ℕ). topDot (getD row k 0) fallback) 640
 
 -- dot k; transparent at the end: the fallback, widened as $41
 unfoldable pub lineDot : State → List ℕ → List ℕ → LineNumber → ℕ → ℕ

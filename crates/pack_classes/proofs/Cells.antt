@@ -10,7 +10,7 @@ use borrow.Author.Tests.{eqb-true, eq-eqb}
 use Rattle.lists.proofs.Search.{all-at, all-of, some-of, some-at}
 use Rattle.lists.specs.Tab.{tab}
 use Rattle.lists.proofs.Tab.{getD-tab, length-tab, tab-ext, tab-step}
-use Rattle.tilemap.specs.Index.{columnOf, rowOf, halfOf}
+use Rattle.tilemap_turns.specs.Turns.{columnOf, rowOf, halfOf}
 use Rattle.pack_classes.specs.Picture.{pixelOf, cellPixel, cellByte, cellPixels, pixelIn}
 use Rattle.pack_classes.specs.Turned.{turnedAt, turnedRow, turnedInto, canMake, canTurn}
 use Rattle.pack_classes.proofs.Group.{composed, divided, column-small, row-small}

@@ -1,7 +1,7 @@
 -- The claims on the turns, from the computed tests.
 use mathlib.Core.Path.{refl}
 use native.Mathlib.Omega.{arith}
-use Rattle.tilemap.specs.Index.{columnOf, rowOf}
+use Rattle.tilemap_turns.specs.Turns.{columnOf, rowOf}
 use Rattle.pack_classes.specs.Claims.{TurnsClosed, TurnsUndone, TurnNone}
 use Rattle.pack_classes.proofs.Group.{composed, divided}
 

@@ -8,7 +8,7 @@ use lib.Dec.{eqb}
 use borrow.Author.Tests.{eqb-true}
 use Rattle.lists.specs.Search.{least, some, all}
 use Rattle.lists.proofs.Search.{all-at, some-at, and-left, and-right}
-use Rattle.tilemap.specs.Index.{columnOf, rowOf, mirrored}
+use Rattle.tilemap_turns.specs.Turns.{columnOf, rowOf, mirrored}
 use Rattle.pack_classes.specs.Claims.{After}
 
 -- at (x, y), t after u is s

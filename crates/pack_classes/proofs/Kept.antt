@@ -7,7 +7,7 @@ use Prim.Native.Nat.{ℕ, _+_, _-_, _*_, _/_, _%_, _<_}
 use native.Mathlib.Omega.{arith}
 use lib.Dec.{lit<, eqb}
 use Rattle.lists.proofs.Search.{least-none, some-at}
-use Rattle.tilemap.specs.Index.{columnOf, rowOf, mirrored}
+use Rattle.tilemap_turns.specs.Turns.{columnOf, rowOf, mirrored}
 use Rattle.pack_classes.specs.Picture.{pixelIn}
 use Rattle.pack_classes.specs.Turned.{turnedInto, turnFor, canMake}
 use Rattle.pack_classes.specs.Mark.{total, weight, weightAt, squareOf, markTerm, markOf}

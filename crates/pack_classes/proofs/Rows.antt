@@ -12,7 +12,7 @@ use borrow.Author.Tests.{eqb-true, eq-eqb}
 use Rattle.lists.specs.Search.{all}
 use Rattle.lists.proofs.Search.{below, all-at, all-of, not-both}
 use Rattle.lists.proofs.Tab.{getD-tab}
-use Rattle.tilemap.specs.Index.{columnOf, rowOf, mirrored}
+use Rattle.tilemap_turns.specs.Turns.{columnOf, rowOf, mirrored}
 use Rattle.pack_classes.specs.Picture.{pixelIn}
 use Rattle.pack_classes.specs.Turned.{turnedRow, turnedInto}
 use Rattle.pack_classes.specs.Rows.{transposeOf, inRow, Row, rowSame, rowsSame}

@@ -1,7 +1,7 @@
 -- The eight turns, by the tilemap's rule.
 use Prim.Native.Nat.{ℕ, _<_}
 use mathlib.Core.Path.{_≡_}
-use Rattle.tilemap.specs.Index.{columnOf, rowOf}
+use Rattle.tilemap_turns.specs.Turns.{columnOf, rowOf}
 
 -- turn s shows what turn t shows of what turn u shows
 pub record After (t u s : ℕ) : Type 0 where

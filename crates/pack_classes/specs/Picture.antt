@@ -3,7 +3,7 @@ use Prim.Native.Nat.{ℕ, _+_, _*_, _/_, _%_}
 use mathlib.Core.List.{List}
 use lib.ListN.{getD}
 use Rattle.lists.specs.Tab.{tab}
-use Rattle.tilemap.specs.Index.{halfOf}
+use Rattle.tilemap_turns.specs.Turns.{halfOf}
 
 -- the picture is 256 rows of 160 bytes, high half left
 unfoldable pub pixelOf : List ℕ → ℕ → ℕ → ℕ

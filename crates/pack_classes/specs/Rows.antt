@@ -8,7 +8,7 @@ use lib.ListN.{getD}
 use lib.Dec.{eqb}
 use Rattle.lists.specs.Tab.{tab}
 use Rattle.lists.specs.Search.{all}
-use Rattle.tilemap.specs.Index.{mirrored}
+use Rattle.tilemap_turns.specs.Turns.{mirrored}
 
 -- a cell of 64 pixels with its rows and columns exchanged
 unfoldable pub transposeOf : List ℕ → List ℕ

@@ -4,7 +4,7 @@ use mathlib.Core.List.{List}
 use mathlib.Core.Bool.{Bool}
 use lib.Dec.{eqb}
 use Rattle.lists.specs.Search.{least, some, all, firsts}
-use Rattle.tilemap.specs.Index.{columnOf, rowOf}
+use Rattle.tilemap_turns.specs.Turns.{columnOf, rowOf}
 use Rattle.pack_classes.specs.Picture.{cellPixels, pixelIn}
 
 -- one cell of 64 pixels, turned by t, is another at (x, y)

@@ -3,7 +3,7 @@ ghost use mathlib.Core.Path.{_≡_};
 ghost use Prim.Native.Nat.{ℕ, _*_, _/_, _<_};
 ghost use lib.ListN.{length, getD};
 ghost use Rattle.lists.specs.Tab.{tab};
-ghost use Rattle.tilemap.specs.Index.{halfOf};
+ghost use Rattle.tilemap_turns.specs.Turns.{halfOf};
 ghost use Rattle.pack_classes.specs.Picture.{cellByte, cellPixels};
 
 // The 32 bytes of a cell, four from each of eight lines: side by side they become pixels many at a time.

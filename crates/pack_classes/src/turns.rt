@@ -7,7 +7,7 @@ ghost use Rattle.pack_classes.specs.Rows.{transposeOf, Eight, Row, rowSa
 ghost use Rattle.pack_classes.specs.Turned.{turnedInto, turnFor};
 ghost use Rattle.pack_classes.specs.Mark.{markOf};
 use lists::usize_of;
-use tilemap::mirror;
+use tilemap_turns::mirror;
 
 // A cell with its rows and columns exchanged, in which rotated turns are compared row by row.
 pub fn transpose(cell: &[u8], out: &mut [u8])

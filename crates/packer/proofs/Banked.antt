@@ -9,8 +9,10 @@ use native.Mathlib.Nat.{add-assoc}
 use lib.ListN.{length, getD, take, drop, replicate, length-append, length-replicate}
 use lib.Seq.{getD-take, getD-drop, take-at, drop-at}
 use Rattle.lists.specs.Bytes.{Bytes}
-use Rattle.tilemap.specs.Index.{fetched, entryAddress, highOf, entryAt, tileNumber, turnOf, columnOf, rowOf, halfOf, pixelAt, entryPixel, tileIndex}
-use Rattle.tilemap.proofs.Inside.{fetched-inside}
+use Rattle.tilemap_entries.specs.Entries.{fetched, entryAddress, highOf, entryAt, tileNumber}
+use Rattle.tilemap_turns.specs.Turns.{turnOf, columnOf, rowOf, halfOf}
+use Rattle.tilemap_rule.specs.Index.{pixelAt, entryPixel, tileIndex}
+use Rattle.tilemap_entries.proofs.Inside.{fetched-inside}
 use Rattle.pack_classes.proofs.Group.{column-small, row-small}
 use Rattle.packer.specs.Sheet.{lowByte, highByte, sheetSetup, SetIn, sheetIndex}
 use Rattle.packer.specs.Answer.{Setting}

@@ -9,10 +9,10 @@ use lib.ListN.{getD}
 use borrow.Author.Tests.{eqb-true}
 use Rattle.lists.specs.Search.{firsts, different}
 use Rattle.lists.proofs.Search.{firsts-within}
-use Rattle.tilemap.specs.Index.{turnOf, columnOf, rowOf, halfOf}
+use Rattle.tilemap_turns.specs.Turns.{turnOf, columnOf, rowOf, halfOf}
 use Rattle.pack_classes.specs.Picture.{pixelOf, cellPixel}
 use Rattle.pack_classes.specs.Turned.{canTurn, classes}
-use Rattle.tilemap.proofs.Within.{half-below}
+use Rattle.tilemap_rule.proofs.Within.{half-below}
 use Rattle.pack_classes.proofs.Cells.{Shows, can-share}
 use Rattle.packer.specs.Sheet.{lowByte, highByte, named, sheetIndex, Draws}
 use Rattle.packer.proofs.Banked.{turn-small, read}

@@ -13,7 +13,7 @@ use Rattle.lists.proofs.Search.{some-of, firsts-fewer}
 use Rattle.lists.specs.Tab.{tab}
 use Rattle.lists.proofs.Tab.{getD-tab}
 use Rattle.lists.specs.Bytes.{Bytes}
-use Rattle.tilemap.specs.Index.{columnOf, rowOf, halfOf}
+use Rattle.tilemap_turns.specs.Turns.{columnOf, rowOf, halfOf}
 use Rattle.pack_classes.specs.Picture.{pixelOf, cellPixel, cellByte, cellPixels}
 use Rattle.pack_classes.specs.Turned.{canTurn, classes}
 use Rattle.pack_classes.proofs.Group.{column-small, row-small}

@@ -11,7 +11,7 @@ use lib.Seq.{getD-append-seam, getD-set-same, getD-set-other}
 use borrow.Author.Tests.{lt-ltb, le-ltb}
 use Rattle.lists.specs.Search.{least}
 use Rattle.lists.proofs.Search.{least-same, least-here, below}
-use Rattle.tilemap.specs.Index.{columnOf, rowOf}
+use Rattle.tilemap_turns.specs.Turns.{columnOf, rowOf}
 use Rattle.pack_classes.specs.Picture.{cellPixels}
 use Rattle.pack_classes.specs.Turned.{turnedInto, turnFor, canMake}
 use Rattle.pack_classes.proofs.Cells.{Shows, turned-of}

@@ -3,7 +3,7 @@ use mathlib.Core.Path.{_≡_}
 use mathlib.Core.List.{List}
 use Prim.Native.Nat.{ℕ, _+_, _*_, _<_}
 use lib.ListN.{getD}
-use Rattle.tilemap.specs.Index.{tileIndex}
+use Rattle.tilemap_rule.specs.Index.{tileIndex}
 use Rattle.packer.specs.Sheet.{named, sheetSetup, SetIn, sheetIndex}
 
 -- in every setting the tilemap rule gives, at each pixel, the index read directly from map and definitions

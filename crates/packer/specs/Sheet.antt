@@ -7,8 +7,9 @@ use Prim.Native.Nat.{ℕ, _+_, _*_, _/_, _%_, _≤_, _<_}
 use lib.ListN.{length, getD, take, drop}
 use Rattle.lists.specs.Search.{different}
 use Rattle.lists.specs.Bytes.{Bytes}
-use Rattle.tilemap.specs.declared.rule.TileSetup.{TileSetup}
-use Rattle.tilemap.specs.Index.{turnOf, columnOf, rowOf, halfOf, indexOf, tileIndex}
+use Rattle.tilemap_entries.specs.declared.entries.TileSetup.{TileSetup}
+use Rattle.tilemap_turns.specs.Turns.{turnOf, columnOf, rowOf, halfOf}
+use Rattle.tilemap_rule.specs.Index.{indexOf, tileIndex}
 use Rattle.pack_classes.specs.Picture.{pixelOf}
 
 -- the tile number of an entry: the low byte alone, without bit 8, as the ULA is on

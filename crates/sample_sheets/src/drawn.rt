@@ -2,10 +2,10 @@
 ghost use mathlib.Core.Path.{_≡_};
 ghost use Prim.Native.Nat.{_<_};
 ghost use lib.ListN.{length};
-ghost use Rattle.tilemap.specs.Bounds.{SetupBounds};
+ghost use Rattle.tilemap_entries.specs.Bounds.{SetupBounds};
 use lists::put;
 use lists::usize_of;
-use tilemap::TileSetup;
+use tilemap_entries::TileSetup;
 
 // The index at pixel i of 81,920 is that of the picture, with palette offset 0.
 fn is_right(picture: &[u8], bank: &[u8], t: TileSetup, i: usize) -> bool
@@ -13,7 +13,8 @@ fn is_right(picture: &[u8], bank: &[u8], t: TileSetup, i: usize) -> bool
 {
     let x = i % 320;
     let y = i / 320;
-    tilemap::index_at(t, bank, x, y) == tilemap::half(x, usize_of(picture[y * 160 + x / 2]))
+    tilemap_rule::index_at(t, bank, x, y)
+        == tilemap_turns::half(x, usize_of(picture[y * 160 + x / 2]))
 }
 
 fn count_wrong(picture: &[u8], bank: &[u8], t: TileSetup) -> u64

@@ -2,7 +2,7 @@
 use mathlib.Core.Path.{refl}
 use Rattle.colour.specs.Bytes.{widened}
 use Rattle.ula_byte.specs.Bytes.{loresAddress}
-use Rattle.tilemap.specs.Index.{columnOf, rowOf}
+use Rattle.tilemap_turns.specs.Turns.{columnOf, rowOf}
 use Rattle.starred.specs.Claims.{StarredSamples}
 
 pub starredSamples : StarredSamples

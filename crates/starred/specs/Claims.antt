@@ -12,7 +12,7 @@ use Rattle.ula_mode.specs.declared.modes.Mode.the-variants.{HighColour}
 use Rattle.ula_index.specs.Index.{inkIndex, paperIndex}
 use Rattle.ula_border.specs.Border.{hiresBorderIndex}
 use Rattle.ula_scheme.specs.declared.schemes.Scheme.the-variants.{Next}
-use Rattle.tilemap.specs.Index.{columnOf, rowOf}
+use Rattle.tilemap_turns.specs.Turns.{columnOf, rowOf}
 
 pub record Sample : Type 0 where
   pub given : ℕ

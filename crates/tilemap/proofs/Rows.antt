@@ -10,9 +10,12 @@ use lib.ListN.{length, take, drop, getD, set, length-set, List·getD-append}
 use lib.Seq.{take-at, drop-at, drop-drop}
 use Rattle.lists.specs.Tab.{tab}
 use Rattle.lists.proofs.Tab.{tab-none, tab-step, tab-done, tab-ext, tab-join, length-tab, getD-tab}
-use Rattle.tilemap.specs.declared.rule.TileSetup.{TileSetup}
-use Rattle.tilemap.specs.declared.rule.Entry.{Entry}
-use Rattle.tilemap.specs.Index.{columnsOf, widthOf, tyOf, cellOf, entryAt, tileNumber, turnOf, mirrored, bOf, columnOf, rowOf, pixelAt, entryPixel, tileEntry, tileIndex}
+use Rattle.tilemap_entries.specs.declared.entries.TileSetup.{TileSetup}
+use Rattle.tilemap_entries.specs.declared.entries.Entry.{Entry}
+use Rattle.state.specs.Bits.{columnsOf, widthOf}
+use Rattle.tilemap_entries.specs.Entries.{tyOf, cellOf, entryAt, tileNumber, tileEntry}
+use Rattle.tilemap_turns.specs.Turns.{turnOf, mirrored, bOf, columnOf, rowOf}
+use Rattle.tilemap_rule.specs.Index.{pixelAt, entryPixel, tileIndex}
 use Rattle.tilemap.specs.Shades.{shadeFrom, shadeOf, shadeAt, rowLength, tileRow}
 
 -- the first k of a cell's eight shades are written, whatever pixel is read for each

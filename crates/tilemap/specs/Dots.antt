@@ -4,9 +4,10 @@ use mathlib.Core.List.{List}
 use mathlib.Core.Bool.{Bool, true, false, cond, not, _||_}
 use lib.Dec.{eqb}
 use Rattle.surface.specs.Dots.{inside}
-use Rattle.tilemap.specs.declared.rule.TileSetup.{TileSetup}
-use Rattle.tilemap.specs.declared.setup.Window.{Window}
-use Rattle.tilemap.specs.Index.{tileIndex, ulaAbove}
+use Rattle.tilemap_entries.specs.declared.entries.TileSetup.{TileSetup}
+use Rattle.tilemap_setup.specs.declared.setup.Window.{Window}
+use Rattle.tilemap_rule.specs.Index.{tileIndex}
+use Rattle.tilemap_entries.specs.Entries.{ulaAbove}
 
 -- a tile dot is transparent, or shows an index, with the ULA above it or not
 pub data TileDot : Type 0 where

@@ -1,5 +1,3 @@
-pub mod Index
 pub mod Dots
-pub mod Setup
 pub mod Shades
 pub mod Bounds

@@ -4,8 +4,10 @@ use Prim.Native.Nat.{ℕ, _+_, _*_, _/_, _%_}
 use mathlib.Core.List.{List}
 use lib.ListN.{getD}
 use Rattle.lists.specs.Tab.{tab}
-use Rattle.tilemap.specs.declared.rule.TileSetup.{TileSetup}
-use Rattle.tilemap.specs.Index.{columnsOf, widthOf, tyOf, cellOf, entryAt, entryPixel}
+use Rattle.tilemap_entries.specs.declared.entries.TileSetup.{TileSetup}
+use Rattle.state.specs.Bits.{columnsOf, widthOf}
+use Rattle.tilemap_entries.specs.Entries.{tyOf, cellOf, entryAt}
+use Rattle.tilemap_rule.specs.Index.{entryPixel}
 
 -- what the table lent has at an offset and a pixel, with a mark
 unfoldable pub shadeFrom : List ℕ → ℕ → ℕ → ℕ → ℕ

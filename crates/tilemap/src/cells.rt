@@ -4,20 +4,23 @@ ghost use mathlib.Core.List.{_++_};
 ghost use Prim.Native.Nat.{ℕ, _+_, _*_, _/_, _%_, _≤_, _<_};
 ghost use lib.ListN.{length, drop};
 ghost use Rattle.lists.specs.Tab.{tab};
-ghost use Rattle.tilemap.specs.Index.{columnsOf, widthOf, mirrored, pixelAt, entryPixel};
+ghost use Rattle.state.specs.Bits.{columnsOf, widthOf};
+ghost use Rattle.tilemap_turns.specs.Turns.{mirrored};
+ghost use Rattle.tilemap_rule.specs.Index.{pixelAt, entryPixel};
 ghost use Rattle.tilemap.specs.Shades.{shadeFrom, shadeOf, shadeAt, rowLength, tileRow};
-ghost use Rattle.tilemap.specs.Bounds.{SetupBounds, EntryBounds, ShadeBounds};
-use crate::rule::Entry;
-use crate::rule::Spot;
-use crate::rule::TileSetup;
-use crate::rule::cell_of;
-use crate::rule::down_map;
-use crate::rule::entry_at;
-use crate::rule::mirror;
-use crate::rule::pixel_at;
-use crate::rule::tile_number;
-use crate::rule::wrapped;
+ghost use Rattle.tilemap_entries.specs.Bounds.{SetupBounds, EntryBounds};
+ghost use Rattle.tilemap.specs.Bounds.{ShadeBounds};
 use surface::LineNumber;
+use tilemap_entries::Entry;
+use tilemap_entries::TileSetup;
+use tilemap_entries::cell_of;
+use tilemap_entries::down_map;
+use tilemap_entries::entry_at;
+use tilemap_entries::tile_number;
+use tilemap_entries::wrapped;
+use tilemap_rule::pixel_at;
+use tilemap_turns::Spot;
+use tilemap_turns::mirror;
 
 fn shade_from(shades: &[u16; 256], offset: usize, mark: u16, pixel: usize) -> u16
     requires { ⌜ (ShadeBounds (now shades)) × (offset ≤ 240) × (mark ≤ 1024) × (pixel < 16) ⌝ }

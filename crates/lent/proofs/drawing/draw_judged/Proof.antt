@@ -1,6 +1,6 @@
 -- What the state alone is refused for is the answer; a line that is not refused is drawn.
 use mathlib.Core.Path.{refl}
-use Rattle.line.proofs.Exits.{drawn, left}
+use Rattle.line_replies.proofs.Exits.{drawn, left}
 use Rattle.lent.proofs.Drawn.{state-reply-read}
 use Rattle.lent.proofs.Exits.{done-is, not-done}
 use borrow.Author.Needs.{needs}

@@ -1,7 +1,7 @@
 -- A drawing that nothing refuses has met every bound; any other leaves the line.
 use borrow.Author.Tests.{eq-eqb, ne-eqb}
 use mathlib.Core.Path.{sym, _∙_}
-use Rattle.line.proofs.Exits.{judged, drawn, left}
+use Rattle.line_replies.proofs.Exits.{judged, drawn, left}
 use borrow.Author.Needs.{needs}
 use Rattle.line.proofs.drawer.draw.Statement.{statement}
 use Rattle.line.proofs.drawer.draw.Tie as tie

@@ -2,7 +2,7 @@
 use Rattle.pack_classes.proofs.Cells.{half-left, half-right}
 use Rattle.lists.proofs.Tab.{tab-none, tab-two, tab-done}
 use Rattle.lists.specs.Tab.{tab}
-use Rattle.tilemap.specs.Index.{halfOf}
+use Rattle.tilemap_turns.specs.Turns.{halfOf}
 use lib.ListN.{length, take, getD, length-set}
 use Prim.Native.Nat.{ℕ, _*_, _/_, _≤_, _-_}
 use borrow.Author.Needs.{needs}

@@ -1,6 +1,6 @@
 -- The loop of `same`: the rows so far are equal.
 use Rattle.pack_classes.specs.Rows.{rowSame, rowsSame}
-use Rattle.tilemap.specs.Index.{mirrored}
+use Rattle.tilemap_turns.specs.Turns.{mirrored}
 use Rattle.lists.proofs.Search.{all-not, all-of}
 use borrow.Author.Tests.{not-true, not-false}
 use borrow.Author.Count.{below-none, below-more}

@@ -1,5 +1,6 @@
 -- The loop of `rotated`: the first k shades are right.
-use Rattle.tilemap.specs.Index.{mirrored, pixelAt}
+use Rattle.tilemap_turns.specs.Turns.{mirrored}
+use Rattle.tilemap_rule.specs.Index.{pixelAt}
 use Rattle.tilemap.proofs.Rows.{Written, written-none, written-step, written-done}
 use Prim.Native.Nat.{ℕ, _-_}
 use borrow.Author.Needs.{needs}

@@ -1,0 +1,107 @@
+// What a drawing is refused for, piece by piece.
+ghost use mathlib.Core.Path.{_≡_};
+ghost use Rattle.line_replies.specs.Replies.{lineReply, lengthsReply, lawfulReply, loresWithTiles, nextWithPlus, noMode, farOffset, stateReply, drawReply};
+use reply::Reply;
+use reply::first_of;
+use state::Palette;
+use state::Ports;
+use state::State;
+use state::Tiles;
+use state::Ula;
+use surface::LineNumber;
+
+// Done where the line can be drawn.
+pub fn line_reply(line: LineNumber) -> Reply
+    ensures { λ r. ⌜ r ≡ lineReply line ⌝ }
+{
+    if surface::is_line(line) {
+        Reply::Done
+    } else {
+        Reply::NoLine
+    }
+}
+
+// Done where both banks and the line have their lengths.
+pub fn lengths_reply(ula: usize, tile: usize, out: usize) -> Reply
+    ensures { λ r. ⌜ r ≡ lengthsReply ula tile out ⌝ }
+{
+    if (ula == 16384) & (tile == 16384) {
+        if out == 640 {
+            Reply::Done
+        } else {
+            Reply::BufferLength
+        }
+    } else {
+        Reply::BankLength
+    }
+}
+
+pub fn lawful_reply(s: State) -> Reply
+    ensures { λ r. ⌜ r ≡ lawfulReply s ⌝ }
+{
+    if state::lawful(s) {
+        Reply::Done
+    } else {
+        Reply::NotLawful
+    }
+}
+
+fn lores_with_tiles(u: Ula, t: Tiles) -> bool
+    ensures { λ r. ⌜ r ≡ loresWithTiles u t ⌝ }
+{
+    state::lores_on(u) & state::tilemap_on(t)
+}
+
+fn next_with_plus(p: Palette, ports: Ports) -> bool
+    ensures { λ r. ⌜ r ≡ nextWithPlus p ports ⌝ }
+{
+    state::next_on(p) & ports.plus
+}
+
+fn no_mode(u: Ula, ports: Ports) -> bool
+    ensures { λ r. ⌜ r ≡ noMode u ports ⌝ }
+{
+    let missing = ula_mode::is_missing(ula_mode::mode_of(u, ports));
+    state::ula_on(u) & missing
+}
+
+fn far_offset(t: Tiles) -> bool
+    ensures { λ r. ⌜ r ≡ farOffset t ⌝ }
+{
+    let width = state::width_of(state::columns80(t));
+    let x = state::x_offset(t);
+    state::tilemap_on(t) & (width <= x)
+}
+
+// What the state alone is refused for.
+pub fn state_reply(u: Ula, t: Tiles, p: Palette, ports: Ports) -> Reply
+    ensures { λ r. ⌜ r ≡ stateReply u t p ports ⌝ }
+{
+    if lores_with_tiles(u, t) {
+        return Reply::LoresWithTiles;
+    }
+    if next_with_plus(p, ports) {
+        return Reply::NextWithPlus;
+    }
+    if no_mode(u, ports) {
+        return Reply::NoMode;
+    }
+    if far_offset(t) {
+        return Reply::FarOffset;
+    }
+    Reply::Done
+}
+
+// The replies in their order; the first that refuses is the answer.
+pub fn draw_reply(line: LineNumber, ula: usize, tile: usize, out: usize, s: State) -> Reply
+    ensures { λ r. ⌜ r ≡ drawReply line ula tile out s ⌝ }
+{
+    let last = first_of(
+        lawful_reply(s),
+        state_reply(s.ula, s.tiles, s.palette, s.ports),
+    );
+    first_of(
+        line_reply(line),
+        first_of(lengths_reply(ula, tile, out), last),
+    )
+}
