@@ -1,13 +1,12 @@
--- Packing into lent buffers: the packer's answer, taken apart.
+-- Packing into lent buffers: the packer's promise, with its answer taken apart.
 use Prim.Native.Nat.{ℕ}
 use mathlib.Core.Path.{_≡_}
 use mathlib.Core.List.{List}
-use mathlib.Core.Bool.{cond}
 use lib.ListN.{length}
-use Rattle.reply.specs.Reply.{replyNumber, isDone}
-use Rattle.packer.specs.declared.Packing.{Packing}
-use Rattle.packer.specs.Answer.{packAnswer}
-use Rattle.packer.specs.Greedy.{packedMap, packedDefs}
+use Rattle.reply.specs.Reply.{replyNumber}
+use Rattle.pack_rule.specs.declared.Packing.{Packing}
+use Rattle.pack_rule.specs.Answer.{packAnswer}
+use Rattle.pack_rule.specs.Packs.{Packs}
 
 -- what the packer answers for lent buffers of these lengths
 abbrev pub packed : List ℕ → ℕ → ℕ → List ℕ → List ℕ → Packing
@@ -17,5 +16,5 @@ packed pic allowed offset map defs = packAnswer pic allowed offset (length map) 
 pub record LentPacked (pic : List ℕ) (allowed offset : ℕ) (map defs map′ defs′ : List ℕ) (count r : ℕ) : Type 0 where
   pub reply-is : r ≡ replyNumber (packed pic allowed offset map defs .reply)
   pub count-is : count ≡ packed pic allowed offset map defs .count
-  pub map-is : map′ ≡ cond (isDone (packed pic allowed offset map defs .reply)) (packedMap pic offset) map
-  pub defs-is : defs′ ≡ cond (isDone (packed pic allowed offset map defs .reply)) (packedDefs pic) defs
+  -- all that the packer promises of them
+  pub packs : Packs pic allowed offset map defs map′ defs′ (packed pic allowed offset map defs)

@@ -1,11 +1,2 @@
-// The cells of a picture, and which of them can be turned into each other. Every call here asks for a picture of 40,960
-// bytes and for cells below 1,280, or for unpacked cells of 64 pixels: packing judges the picture first.
-mod marks;
-mod pixels;
-mod turns;
-
-pub use marks::mark;
-pub use pixels::cell_bytes;
-pub use pixels::unpack;
-pub use turns::transpose;
-pub use turns::turn_marked;
+// The cells of a picture, which of them can be turned into each other, and a number that a cell keeps when it is turned: definitions
+// and the laws of the eight turns. It has no code: `pack_cells`, `pack_turns` and the packing are proved against it.

@@ -1,10 +1,2 @@
-pub mod Banked
-pub mod Lower
-pub mod Greedy
-pub mod Packed
-pub mod Filled
-pub mod Defined
-pub mod Listing
-pub mod Step
-pub mod Answers
-pub mod Claims
+mod Filled
+mod Answers

@@ -1,5 +1,1 @@
-pub mod Sheet
-pub mod Greedy
-pub mod Answer
-pub mod Claims
 pub mod Bounds

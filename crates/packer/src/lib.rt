@@ -1,21 +1,16 @@
-// The tile packer: the map and the definitions of a picture, and the fewest tiles that draw it. Only `pack` and `fewest` are for
-// others, and ask for nothing; the functions of the modules ask for what `judge` has shown.
+// The tile packer: the map and the definitions of a picture, and the fewest tiles that draw it. `pack` and `fewest` ask for nothing;
+// the functions of the module ask for what `judge` has shown.
 ghost use mathlib.Core.Path.{_≡_};
-ghost use Rattle.packer.specs.Answer.{judged, answered, packAnswer, Packs};
+ghost use Rattle.pack_rule.specs.Greedy.{packedMap, packedDefs};
+ghost use Rattle.pack_rule.specs.Answer.{judged, answered, packAnswer, Demanded};
+ghost use Rattle.pack_rule.specs.Packs.{Packs};
 
-mod cells;
-mod definitions;
 mod sheet;
 
+pub use pack_rule::Packing;
 use reply::Reply;
 use sheet::count;
 use sheet::write;
-
-// A packing's answer: how many tiles its map names, 0 where refused.
-pub struct Packing {
-    pub reply: Reply,
-    pub count: usize,
-}
 
 // The refusals that come before any cell is looked at, from the three lengths and the two numbers.
 fn judge(pic: usize, map: usize, defs: usize, allowed: usize, offset: usize) -> Reply
@@ -72,7 +67,8 @@ pub fn pack(
 
 // The fewest tiles that draw a picture: the answer of `pack` with 256 allowed and buffers of the right lengths.
 pub fn fewest(picture: &[u8]) -> Packing
-    ensures { λ r. ⌜ r ≡ packAnswer (now (picture .entry)) 256 0 2560 8192 ⌝ }
+    ensures { λ r. ⌜ (r ≡ packAnswer (now (picture .entry)) 256 0 2560 8192)
+        × (Demanded (now (picture .entry)) 256 0 (packedMap (now (picture .entry)) 0) (packedDefs (now (picture .entry))) r) ⌝ }
 {
     let early = judge(picture.len(), 2560, 8192, 256, 0);
     if reply::number(early) != 0 {

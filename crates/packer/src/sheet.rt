@@ -3,9 +3,9 @@ ghost use mathlib.Core.Path.{_≡_};
 ghost use Prim.Native.Nat.{_≤_, _<_};
 ghost use lib.ListN.{length};
 ghost use Rattle.packer.specs.Bounds.{Counted, Written};
-use crate::cells::pack_cells;
-use crate::definitions::write_definitions;
 use lists::put;
+use pack_entries::pack_cells;
+use pack_parts::write_definitions;
 
 // How many definitions a picture takes, or one more than allowed.
 pub fn count(pic: &[u8], allowed: usize) -> usize

@@ -1,5 +1,5 @@
 -- `answer` chooses by one test.
-use Rattle.packer.specs.Answer.{answered}
+use Rattle.pack_rule.specs.Answer.{answered}
 use borrow.Author.Tests.{le-leb, lt-leb}
 use Rattle.lists.proofs.Cond.{if-true, if-false}
 use mathlib.Core.Path.{sym}

@@ -1,6 +1,8 @@
--- `fewest`: refused early, or answered by its count.
+-- `fewest`: refused early, or answered by its count; demand 3 is that of the answer.
 use Rattle.reply.specs.Reply.{replyNumber}
-use Rattle.packer.proofs.Answers.{good, answer-early, answer-judged, answered-same}
+use Rattle.pack_rule.proofs.Answers.{good, answer-early, answer-judged, demanded}
+use Rattle.packer.proofs.Answers.{answered-same}
+use native.Mathlib.Omega.{arith}
 use mathlib.Core.Path.{sym, ap, _∙_}
 use borrow.Author.Needs.{needs}
 use Rattle.packer.proofs.fewest.Statement.{statement}
@@ -14,7 +16,9 @@ number-requires c κs = search needs
 
 returns : tie.Need-returns
 returns c = let s = c .before .before .before .before in
-    answer-early (s .args .picture .now) 256 0 2560 8192 (c .before .before .judge .result) (c .before .before .judge .ensures) (λ e. c .if1 .taken (c .before .number .ensures ∙ e))
+    let p = s .args .picture .now in
+    let e = answer-early p 256 0 2560 8192 (c .before .before .judge .result) (c .before .before .judge .ensures) (λ e. c .if1 .taken (c .before .number .ensures ∙ e)) in
+    (e, rw e (demanded p 256 0 2560 8192 (λ i. omega (arith, c .before .before .before .shared-slice-known .given i))))
 
 count-requires : tie.Need-count-requires
 count-requires c κs = let s = c .before .before .before .before in
@@ -27,7 +31,9 @@ answer-requires c κs = search needs
 returns-2 : tie.Need-returns-2
 returns-2 c = let s = c .before .before .before .before .before .before in
     let z = ap replyNumber (sym (c .before .before .before .before .judge .ensures)) ∙ sym (c .before .before .before .number .ensures) ∙ c .before .before .if1 .left in
-    c .answer .ensures ∙ answered-same (s .args .picture .now) 256 _ (c .before .count .ensures) ∙ answer-judged (s .args .picture .now) 256 0 2560 8192 z
+    let p = s .args .picture .now in
+    let e = c .answer .ensures ∙ answered-same p 256 _ (c .before .count .ensures) ∙ answer-judged p 256 0 2560 8192 z in
+    (e, rw e (demanded p 256 0 2560 8192 (λ i. omega (arith, c .before .before .before .before .before .shared-slice-known .given i))))
 
 pub fewest-spec : {M : Type 1} → statement M
 fewest-spec =

@@ -1,5 +1,5 @@
 -- `judge` chooses by two tests.
-use Rattle.packer.specs.Answer.{judged}
+use Rattle.pack_rule.specs.Answer.{judged}
 use Rattle.packer.proofs.judge.Statement.{statement}
 use Rattle.packer.proofs.judge.Tie as tie
 

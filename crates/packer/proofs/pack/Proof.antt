@@ -1,6 +1,7 @@
 -- `pack`: refused early, or written and answered by the law that joins the two.
 use Rattle.reply.specs.Reply.{replyNumber}
-use Rattle.packer.proofs.Answers.{good, early, packed}
+use Rattle.pack_rule.proofs.Answers.{good}
+use Rattle.packer.proofs.Answers.{early, packed}
 use native.Mathlib.Omega.{arith}
 use mathlib.Core.Path.{sym, ap, _∙_}
 use borrow.Author.Needs.{needs}
@@ -15,7 +16,8 @@ number-requires c κs = search needs
 
 returns : tie.Need-returns
 returns c = let a = c .before .before .before .before .before .before .args in
-    early (a .picture .now) (a .allowed) (a .offset) (a .map .now) (a .definitions .now) (c .before .before .judge .result) (c .before .before .judge .ensures)
+    early (a .picture .now) (a .allowed) (a .offset) (a .map .now) (a .definitions .now)
+    (λ i. omega (arith, c .before .before .before .before .before .shared-slice-known .given i)) (c .before .before .judge .result) (c .before .before .judge .ensures)
     (λ e. c .if1 .taken (c .before .number .ensures ∙ e))
 
 write-requires : tie.Need-write-requires
@@ -37,8 +39,8 @@ returns-2 c = let h = c .before .before .before .before .before .before .before 
     let s = h .before .before .before .before .before .before in
     let a = s .args in
     packed (a .picture .now) (a .allowed) (a .offset) (a .map .now) (a .definitions .now)
-    (ap replyNumber (sym (h .before .before .judge .ensures)) ∙ sym (h .before .number .ensures) ∙ h .if1 .left)
-    (λ i. omega (arith, h .before .before .before .before .before .shared-slice-known .given i)) _ _ _ _ (c .before .before .before .before .before .write .ensures) (c .answer .ensures)
+    (λ i. omega (arith, h .before .before .before .before .before .shared-slice-known .given i))
+    (ap replyNumber (sym (h .before .before .judge .ensures)) ∙ sym (h .before .number .ensures) ∙ h .if1 .left) _ _ _ _ (c .before .before .before .before .before .write .ensures) (c .answer .ensures)
 
 pub pack-spec : {M : Type 1} → statement M
 pack-spec =

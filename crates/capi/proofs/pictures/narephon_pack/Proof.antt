@@ -1,8 +1,8 @@
--- `narephon_pack` takes the packing apart; its count is at most the number allowed, so it fits (Counts).
+-- `narephon_pack` takes the packing apart; its count is at most the number allowed, so it fits.
 use Prim.Native.Nat.{_≤_}
 use Rattle.reply.specs.Reply.{replyNumber}
-use Rattle.packer.specs.declared.Packing.{Packing}
-use Rattle.capi.proofs.Counts.{count-small}
+use Rattle.pack_rule.specs.declared.Packing.{Packing}
+use Rattle.pack_rule.proofs.Answers.{count-small}
 use native.Mathlib.Omega.{arith}
 use mathlib.Core.Path.{ap, _∙_}
 use borrow.Author.Needs.{needs}
@@ -32,8 +32,7 @@ returns c = let p = c .before .before .before .before .before .before .pack in
     record {
       reply-is = c .number .ensures ∙ ap (λ (a : Packing). replyNumber (a .reply)) e;
       count-is = ap (λ (a : Packing). a .count) e;
-      map-is = rw (← e) (p .ensures .map-is);
-      defs-is = rw (← e) (p .ensures .defs-is);
+      packs = rw e at (p .ensures);
     }
 
 pub narephon-pack-spec : {M : Type 1} → statement M

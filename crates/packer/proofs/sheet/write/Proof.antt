@@ -1,7 +1,7 @@
 -- `write` leaves both buffers where there are too many tiles, and else writes the packing.
 use Rattle.lists.proofs.Placed.{placed-whole}
 use Rattle.packer.proofs.Filled.{filled}
-use Rattle.packer.specs.Greedy.{mapByte, packedMap}
+use Rattle.pack_rule.specs.Greedy.{mapByte, packedMap}
 use Prim.Native.Nat.{_≤_}
 use native.Mathlib.Omega.{arith}
 use mathlib.Core.Path.{refl, _∙_}

@@ -1,0 +1,5 @@
+pub mod Sheet
+pub mod Greedy
+pub mod Answer
+pub mod Claims
+pub mod Packs
