@@ -4,7 +4,7 @@ ghost use Rattle.reply.specs.Reply.{replyNumber};
 ghost use Rattle.colour.specs.Screen.{screenAnswer};
 ghost use Rattle.capi.specs.Packed.{LentPacked};
 ghost use lib.ListN.{length};
-ghost use Rattle.lent.specs.Drawn.{lentDrawReply, lentDrawn};
+ghost use Rattle.lent_drawing.specs.Drawn.{lentDrawReply, lentDrawn};
 ghost use Rattle.capi.specs.Lines.{numbered};
 use reply::number;
 use surface::LineNumber;

@@ -4,10 +4,8 @@ use mathlib.Core.Path.{_≡_, sym, ap, _∙_}
 use mathlib.Core.List.{List}
 use mathlib.Core.Bool.{true, false}
 use lib.ListN.{length}
-use borrow.Author.Tests.{eq-eqb, ne-eqb}
 use Rattle.lists.proofs.Cond.{if-true, if-false}
-use Rattle.reply.specs.declared.Reply.{Reply}
-use Rattle.reply.specs.Reply.{replyNumber, isDone}
+use Rattle.reply.specs.Reply.{isDone}
 use Rattle.reply.proofs.Done.{is-done}
 use Rattle.state.specs.declared.State.{State}
 use Rattle.state.specs.declared.Answer.{Answer}
@@ -17,13 +15,6 @@ use Rattle.register_answers.specs.Answers.{unread}
 use Rattle.record_layout.specs.Record.{recordLength, recordOf, readRecord}
 use Rattle.record_layout.proofs.RoundTrip.{long, answer, state-lawful}
 use Rattle.lent.specs.Lent.{lentAnswer, lentAfter, lentReading}
-
--- a number that is 0, or is not, tells whether its reply is done
-pub done-is : (n : ℕ) (r : Reply) → n ≡ replyNumber r → n ≡ 0 → isDone r ≡ true
-done-is n r e z = eq-eqb _ _ (sym e ∙ z)
-
-pub not-done : (n : ℕ) (r : Reply) → n ≡ replyNumber r → (n ≡ 0 → ⊥) → isDone r ≡ false
-not-done n r e z = ne-eqb _ _ (λ q. z (e ∙ q))
 
 -- the lent record after an answer that is done, and after a refusal
 pub stored : (b : List ℕ) (a : Answer) → isDone (a .reply) ≡ true → recordOf (a .state) ≡ lentAfter b a

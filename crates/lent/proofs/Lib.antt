@@ -1,3 +1,1 @@
-pub mod Exits
-pub mod Drawn
-pub mod Claims
+mod Exits

@@ -1,5 +1,2 @@
 pub mod Calls
 pub mod Lent
-pub mod Drawn
-pub mod Bounds
-pub mod Claims

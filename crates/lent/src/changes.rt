@@ -66,7 +66,7 @@ pub fn change_record(bytes: &mut [u8], c: Change) -> Reply
 pub fn reset_record(bytes: &mut [u8]) -> Reply
     ensures { λ r. ⌜ (r ≡ resetReply (now (bytes .entry))) × (now (bytes .exit) ≡ resetIn (now (bytes .entry))) ⌝ }
 {
-    if bytes.len() == record_parts::places::RECORD_LENGTH {
+    if bytes.len() == record_places::places::RECORD_LENGTH {
         record_parts::put_record(state::reset(), bytes);
         Reply::Done
     } else {

@@ -17,16 +17,23 @@ pub fn missing(path: &[u8]) {
     say(b"\n");
 }
 
-// What a reply means, for those that a picture can be refused by.
-fn meaning(r: Reply) {
+// What a state is refused for.
+fn state_meaning(r: Reply) {
     match r {
-        Reply::BankLength => say(b"a bank is not 16,384 bytes long"),
         Reply::NoMode => say(b"the ULA is on, LoRes off, and port $FF gives no mode"),
         Reply::LoresWithTiles => say(b"LoRes and the tilemap are both on"),
         Reply::NextWithPlus => say(b"ULANext and ULAplus are both on"),
         Reply::FarOffset => say(b"the tilemap is on and its X offset is past its width"),
-        Reply::NotRecord => say(b"the bytes are not a record of a lawful state"),
         _ => say(b"see the table of replies"),
+    }
+}
+
+// What a reply means, for those that a picture can be refused by.
+fn meaning(r: Reply) {
+    match r {
+        Reply::BankLength => say(b"a bank is not 16,384 bytes long"),
+        Reply::NotRecord => say(b"the bytes are not a record of a lawful state"),
+        _ => state_meaning(r),
     }
 }
 

@@ -1,1 +1,1 @@
-mod Groups
+mod Written

@@ -1,23 +1,56 @@
-// Record writing.
+// Record writing: 3, then 4.
 ghost use mathlib.Core.Path.{_≡_};
-ghost use Rattle.record_layout.specs.Record.{writeReply, writtenIn};
-use record_parts::places;
+ghost use mathlib.Core.Bool.{cond};
+ghost use lib.Dec.{eqb};
+ghost use Rattle.reply.specs.declared.Reply.the-variants.{Done, BufferLength, NotLawful};
+ghost use Rattle.state.specs.Lawful.{lawfulState};
+ghost use Rattle.record_layout.specs.Record.{recordLength, writeReply, writtenIn};
 use record_parts::put_record;
+use record_places::places;
 use reply::Reply;
+use reply::first_of;
+use reply::number;
 use state::State;
 use state::lawful;
+
+// A target that is not as long as a record is refused.
+fn length_reply(length: usize) -> Reply
+    ensures { λ r. ⌜ r ≡ cond (eqb length recordLength) Done BufferLength ⌝ }
+{
+    if length == places::RECORD_LENGTH {
+        Reply::Done
+    } else {
+        Reply::BufferLength
+    }
+}
+
+// A state that is not lawful is refused.
+fn lawful_reply(s: State) -> Reply
+    ensures { λ r. ⌜ r ≡ cond (lawfulState s) Done NotLawful ⌝ }
+{
+    if lawful(s) {
+        Reply::Done
+    } else {
+        Reply::NotLawful
+    }
+}
+
+// What refuses a writing, the length before the state.
+fn write_reply(length: usize, s: State) -> Reply
+    ensures { λ r. ⌜ r ≡ cond (eqb length recordLength) (cond (lawfulState s) Done NotLawful) BufferLength ⌝ }
+{
+    let long = length_reply(length);
+    let sound = lawful_reply(s);
+    first_of(long, sound)
+}
 
 // The record of a lawful state, or reply 3 or 4 and the target as it was.
 pub fn write_record(state: State, target: &mut [u8]) -> Reply
     ensures { λ r. ⌜ (r ≡ writeReply (now (target .entry)) state) × (now (target .exit) ≡ writtenIn (now (target .entry)) state) ⌝ }
 {
-    if target.len() != places::RECORD_LENGTH {
-        return Reply::BufferLength;
-    }
-    if lawful(state) {
+    let r = write_reply(target.len(), state);
+    if number(r) == 0 {
         put_record(state, target);
-        Reply::Done
-    } else {
-        Reply::NotLawful
     }
+    r
 }

@@ -1,3 +1,1 @@
-mod Runs
-mod LowFirst
 mod Made

@@ -1,36 +1,49 @@
 // Draws what the outside cases do not reach: the stored sums are those of an independent implementation of document 01.
 use line_sums::draw_case;
 
-fn first_half() {
-    draw_case(b"timex_off.rec", b"bank");
-    draw_case(b"offset_13_mode_0.rec", b"bank");
-    draw_case(b"offset_13_mode_6.rec", b"bank");
-    draw_case(b"map_scroll_255.rec", b"bank");
-    draw_case(b"stencil.rec", b"bank");
-    draw_case(b"bit_8_ula_off.rec", b"bank");
-    draw_case(b"bit_8_ula_on.rec", b"bank");
-    draw_case(b"one_byte_entries.rec", b"bank");
-    draw_case(b"mask_1.rec", b"bank");
-    draw_case(b"mask_63.rec", b"bank");
-    draw_case(b"mask_127.rec", b"bank");
-    draw_case(b"mask_255.rec", b"bank");
+// A record over the one bank.
+fn draw(record: &[u8]) {
+    draw_case(record, b"bank");
 }
 
-fn second_half() {
-    draw_case(b"lores_plus.rec", b"bank");
-    draw_case(b"lores_clip.rec", b"bank");
-    draw_case(b"border_6_plain.rec", b"bank");
-    draw_case(b"border_6_next.rec", b"bank");
-    draw_case(b"border_6_plus.rec", b"bank");
-    draw_case(b"transparent_plus.rec", b"bank");
-    draw_case(b"flash.rec", b"bank");
-    draw_case(b"flash_plus.rec", b"bank");
-    draw_case(b"last_entry.rec", b"bank");
-    draw_case(b"far_offset.rec", b"bank");
-    draw_case(b"no_mode.rec", b"bank");
+fn draw_offsets() {
+    draw(b"timex_off.rec");
+    draw(b"offset_13_mode_0.rec");
+    draw(b"offset_13_mode_6.rec");
+    draw(b"map_scroll_255.rec");
+    draw(b"stencil.rec");
+}
+
+fn draw_tiles_and_masks() {
+    draw(b"bit_8_ula_off.rec");
+    draw(b"bit_8_ula_on.rec");
+    draw(b"one_byte_entries.rec");
+    draw(b"mask_1.rec");
+    draw(b"mask_63.rec");
+    draw(b"mask_127.rec");
+    draw(b"mask_255.rec");
+}
+
+fn draw_lores_and_borders() {
+    draw(b"lores_plus.rec");
+    draw(b"lores_clip.rec");
+    draw(b"border_6_plain.rec");
+    draw(b"border_6_next.rec");
+    draw(b"border_6_plus.rec");
+}
+
+fn draw_rest() {
+    draw(b"transparent_plus.rec");
+    draw(b"flash.rec");
+    draw(b"flash_plus.rec");
+    draw(b"last_entry.rec");
+    draw(b"far_offset.rec");
+    draw(b"no_mode.rec");
 }
 
 fn main() {
-    first_half();
-    second_half();
+    draw_offsets();
+    draw_tiles_and_masks();
+    draw_lores_and_borders();
+    draw_rest();
 }

@@ -27,74 +27,82 @@ fn damage(name: &[u8], place: usize, byte: u8) {
     judge(&bytes);
 }
 
+// A byte of the record in which a half is held, and of the one in which none is.
+fn first(place: usize, byte: u8) {
+    damage(b"own1.rec", place, byte);
+}
+
+fn second(place: usize, byte: u8) {
+    damage(b"own2.rec", place, byte);
+}
+
 // The first n bytes of a record with a byte 0 after it.
-fn cut(name: &[u8], n: usize) {
+fn cut(n: usize) {
     let mut bytes = [0u8; 2151];
-    read_file(name, &mut bytes);
-    report::word(name);
-    report::word(b" length ");
+    read_file(b"own1.rec", &mut bytes);
+    report::word(b"own1.rec length ");
     report::number(n as u64);
     report::word(b": ");
     judge_first(&bytes, n);
 }
 
 fn print_head() {
-    damage(b"own1.rec", 0, 9);
-    damage(b"own1.rec", 1, 102);
-    damage(b"own1.rec", 2, 0);
-    damage(b"own1.rec", 2, 2);
-    damage(b"own1.rec", 3, 255);
-    damage(b"own1.rec", 6, 16);
-    damage(b"own1.rec", 6, 64);
-    damage(b"own1.rec", 8, 5);
-    damage(b"own1.rec", 8, 255);
-    damage(b"own1.rec", 10, 15);
-    damage(b"own1.rec", 10, 16);
-    damage(b"own1.rec", 11, 2);
-    damage(b"own1.rec", 11, 65);
+    first(0, 9);
+    first(1, 102);
+    first(2, 0);
+    first(2, 2);
+    first(3, 255);
+    first(6, 16);
+    first(6, 64);
+    first(8, 5);
+    first(8, 255);
+    first(10, 15);
+    first(10, 16);
+    first(11, 2);
+    first(11, 65);
 }
 
 fn print_tiles() {
-    damage(b"own1.rec", 12, 1);
-    damage(b"own1.rec", 14, 4);
-    damage(b"own1.rec", 17, 63);
-    damage(b"own1.rec", 17, 64);
-    damage(b"own1.rec", 18, 64);
-    damage(b"own1.rec", 20, 191);
-    damage(b"own1.rec", 20, 192);
+    first(12, 1);
+    first(14, 4);
+    first(17, 63);
+    first(17, 64);
+    first(18, 64);
+    first(20, 191);
+    first(20, 192);
 }
 
 fn print_ports() {
-    damage(b"own1.rec", 29, 3);
-    damage(b"own1.rec", 29, 4);
-    damage(b"own1.rec", 30, 4);
-    damage(b"own1.rec", 31, 0);
-    damage(b"own1.rec", 31, 2);
-    damage(b"own1.rec", 32, 0);
-    damage(b"own1.rec", 33, 7);
-    damage(b"own1.rec", 33, 8);
-    damage(b"own1.rec", 35, 127);
-    damage(b"own1.rec", 35, 128);
-    damage(b"own1.rec", 36, 1);
-    damage(b"own1.rec", 36, 2);
-    damage(b"own1.rec", 37, 255);
+    first(29, 3);
+    first(29, 4);
+    first(30, 4);
+    first(31, 0);
+    first(31, 2);
+    first(32, 0);
+    first(33, 7);
+    first(33, 8);
+    first(35, 127);
+    first(35, 128);
+    first(36, 1);
+    first(36, 2);
+    first(37, 255);
 }
 
 fn print_tables() {
-    damage(b"own1.rec", 101, 255);
-    damage(b"own1.rec", 102, 1);
-    damage(b"own1.rec", 102, 2);
-    damage(b"own1.rec", 2148, 1);
-    damage(b"own1.rec", 2148, 2);
-    damage(b"own1.rec", 2149, 255);
+    first(101, 255);
+    first(102, 1);
+    first(102, 2);
+    first(2148, 1);
+    first(2148, 2);
+    first(2149, 255);
 }
 
 fn print_none_held() {
-    damage(b"own2.rec", 31, 1);
-    damage(b"own2.rec", 31, 2);
-    damage(b"own2.rec", 32, 1);
-    damage(b"own2.rec", 36, 0);
-    damage(b"own2.rec", 36, 2);
+    second(31, 1);
+    second(31, 2);
+    second(32, 1);
+    second(36, 0);
+    second(36, 2);
 }
 
 pub fn print_damaged() {
@@ -103,11 +111,11 @@ pub fn print_damaged() {
     print_ports();
     print_tables();
     print_none_held();
-    cut(b"own1.rec", 0);
-    cut(b"own1.rec", 1);
-    cut(b"own1.rec", 2);
-    cut(b"own1.rec", 3);
-    cut(b"own1.rec", 2149);
-    cut(b"own1.rec", 2150);
-    cut(b"own1.rec", 2151);
+    cut(0);
+    cut(1);
+    cut(2);
+    cut(3);
+    cut(2149);
+    cut(2150);
+    cut(2151);
 }

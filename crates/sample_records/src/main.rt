@@ -7,35 +7,21 @@ mod refused;
 
 use judged::print_file;
 
-fn print_first_ten() {
-    print_file(b"00.rec");
-    print_file(b"02.rec");
-    print_file(b"04.rec");
-    print_file(b"06.rec");
-    print_file(b"08.rec");
-    print_file(b"10.rec");
-    print_file(b"12.rec");
-    print_file(b"14.rec");
-    print_file(b"16.rec");
-    print_file(b"18.rec");
+// The record of a number.
+fn print_numbered(n: u8) {
+    let name = [b'0' + n / 10 % 10, b'0' + n % 10, b'.', b'r', b'e', b'c'];
+    print_file(&name);
 }
 
-fn print_second_ten() {
-    print_file(b"20.rec");
-    print_file(b"22.rec");
-    print_file(b"24.rec");
-    print_file(b"26.rec");
-    print_file(b"28.rec");
-    print_file(b"30.rec");
-    print_file(b"32.rec");
-    print_file(b"34.rec");
-    print_file(b"36.rec");
-    print_file(b"38.rec");
+// Those of an outside emulator, 00, 02, .. 38.
+fn print_outside() {
+    for i in 0..20 {
+        print_numbered(i * 2);
+    }
 }
 
 fn main() {
-    print_first_ten();
-    print_second_ten();
+    print_outside();
     print_file(b"own1.rec");
     fields::print_fields(b"own1.rec");
     print_file(b"own2.rec");

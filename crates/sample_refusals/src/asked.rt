@@ -1,5 +1,6 @@
 // A drawing asked for, and its answer printed.
 ghost use Prim.Native.Nat.{_≤_};
+use crate::states;
 use host::report;
 use state::State;
 use surface::LineNumber;
@@ -15,20 +16,31 @@ fn print_answer(label: &[u8], n: u8, first: u16, last: u16) {
     report::word(b"\n");
 }
 
-pub fn ask(label: &[u8], y: usize, s: State) {
+fn draw(label: &[u8], y: usize, s: State) {
     let bank = [0u8; 16384];
     let mut dots = [65535u16; 640];
     let r = line::draw(LineNumber(y), &bank, &bank, s, &mut dots);
     print_answer(label, reply::number(r), dots[0], dots[639]);
 }
 
-// Line 0 with buffers of these lengths, each at most one past the right one.
-pub fn ask_lengths(label: &[u8], ula: usize, tile: usize, width: usize, s: State)
+// Line y of the plain state after writes of three bytes each.
+pub fn ask(label: &[u8], y: usize, writes: &[u8]) {
+    draw(label, y, states::after(writes));
+}
+
+// Line y of the plain state with a border.
+pub fn ask_bordered(label: &[u8], y: usize, border: u8) {
+    draw(label, y, states::bordered(border));
+}
+
+// Line 0 of the plain state with a border, and buffers of these lengths, each at most one past the right one.
+pub fn ask_lengths(label: &[u8], ula: usize, tile: usize, width: usize, border: u8)
     requires { ⌜ (ula ≤ 16385) × (tile ≤ 16385) × (width ≤ 641) ⌝ }
 {
     let bank = [0u8; 16385];
     let other = [0u8; 16385];
     let mut dots = [65535u16; 641];
+    let s = states::bordered(border);
     let r = line::draw(
         LineNumber(0),
         &bank[..ula],

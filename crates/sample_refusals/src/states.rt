@@ -1,70 +1,65 @@
-// States by register and port writes from reset. Border and paper 0 are colour 151, red 2, green 2, blue 7.
+// States by writes from reset. Border and paper 0 are colour 151, red 2, green 2, blue 7.
+ghost use mathlib.Core.Path.{_≡_};
+ghost use Prim.Native.Nat.{_/_};
+ghost use lib.ListN.{length};
+ghost use Rattle.reply.specs.Reply.{replyNumber};
+ghost use Rattle.registers.specs.Registers.{writeRegister};
+ghost use Rattle.sample_refusals.specs.States.{plainState, entryWritten, afterWrites, borderState};
+use lists::u16_of;
 use reply::number;
 use state::State;
 
-fn set(s: State, register: u8, value: u8) -> State {
-    let a = registers::write_register(s, register, value);
-    a.state
-}
-
-fn set_port(s: State, port: u16, value: u8) -> State {
-    let a = registers::write_port(s, port, value);
-    a.state
-}
-
 // Index 16 is what an empty screen and its border show.
-pub fn plain() -> State {
-    let a = set(state::reset(), 0x40, 16);
-    set(a, 0x41, 0x4B)
+fn plain() -> State
+    ensures { λ r. ⌜ r ≡ plainState ⌝ }
+{
+    let a = registers::write_register(state::reset(), 0x40, 16);
+    let b = registers::write_register(a.state, 0x41, 0x4B);
+    b.state
 }
 
-pub fn offset(high: u8, low: u8) -> State {
-    let a = set(plain(), 0x6B, 0x80);
-    let b = set(a, 0x2F, high);
-    set(b, 0x30, low)
+// A write by its number, high byte first: of a register below $FE, of a port from there on.
+fn enter(s: State, high: u8, low: u8, value: u8) -> State
+    ensures { λ r. ⌜ r ≡ entryWritten s high low value ⌝ }
+{
+    let n = u16_of(high) * 256 + u16_of(low);
+    if n < 0xFE {
+        let a = registers::write_register(s, low, value);
+        a.state
+    } else {
+        let b = registers::write_port(s, n, value);
+        b.state
+    }
 }
 
-pub fn mask_reply(mask: u8) -> u8 {
-    let a = registers::write_register(plain(), 0x42, mask);
-    let r = a.reply;
-    number(r)
-}
-
-pub fn unlawful() -> State {
+// The plain state after writes of three bytes each, a number and a value.
+pub fn after(writes: &[u8]) -> State
+    ensures { λ r. ⌜ r ≡ afterWrites (now (writes .entry)) (length (now (writes .entry)) / 3) ⌝ }
+{
     let mut s = plain();
-    s.ports.border = 8;
+    let mut i = 0;
+    while i < writes.len() / 3 {
+        let o = i * 3;
+        s = enter(s, writes[o], writes[o + 1], writes[o + 2]);
+        i += 1;
+    }
     s
 }
 
-pub fn timex(mode: u8) -> State {
-    set_port(set(plain(), 0x08, 4), 0xFF, mode)
+// The plain state with a border, which from 8 on is not lawful.
+pub fn bordered(border: u8) -> State
+    ensures { λ r. ⌜ r ≡ borderState border ⌝ }
+{
+    let mut s = plain();
+    s.ports.border = border;
+    s
 }
 
-pub fn ula_off() -> State {
-    set(timex(3), 0x68, 0x80)
-}
-
-pub fn lores_with_tiles() -> State {
-    set(set(plain(), 0x15, 0x80), 0x6B, 0x80)
-}
-
-fn with_plus(s: State) -> State {
-    set_port(set_port(s, 0xBF3B, 64), 0xFF3B, 1)
-}
-
-pub fn next_with_plus() -> State {
-    with_plus(set(plain(), 0x43, 1))
-}
-
-pub fn six_and_seven() -> State {
-    with_plus(set(lores_with_tiles(), 0x43, 1))
-}
-
-pub fn seven_and_five() -> State {
-    with_plus(set(timex(7), 0x43, 1))
-}
-
-pub fn five_and_eight() -> State {
-    let a = set(timex(7), 0x6B, 0x80);
-    set(a, 0x2F, 3)
+// What a write of the ink mask answers.
+pub fn mask_reply(mask: u8) -> u8
+    ensures { λ r. ⌜ r ≡ replyNumber (writeRegister plainState 0x42 mask .reply) ⌝ }
+{
+    let a = registers::write_register(plain(), 0x42, mask);
+    let r = a.reply;
+    number(r)
 }

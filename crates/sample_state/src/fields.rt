@@ -72,24 +72,36 @@ fn byte_sum(xs: &[u8]) -> u64 {
     s
 }
 
-fn print_palettes(s: State) {
+fn print_ula_palettes(s: State) {
     report::row(b"sum of the first ULA palette", sum(&s.ulafirst));
     report::row(b"sum of the second ULA palette", sum(&s.ulasecond));
+}
+
+fn print_tile_palettes(s: State) {
     report::row(b"sum of the first tilemap palette", sum(&s.tilefirst));
     report::row(b"sum of the second tilemap palette", sum(&s.tilesecond));
 }
 
-pub fn print_fields(s: State) {
+fn print_groups(s: State) {
     print_ula(s.ula);
     print_tiles(s.tiles);
     print_palette(s.palette);
     print_turns(s.turns);
     print_ports(s.ports);
     report::row(b"frame", s.frame as u64);
+}
+
+fn print_rows(s: State) {
     let ula = s.ulaclip;
     print_clip(b"ULA clip", ula);
     let tiles = s.tileclip;
     print_clip(b"tilemap clip", tiles);
     report::row(b"sum of the ULAplus registers", byte_sum(&s.plus));
-    print_palettes(s);
+}
+
+pub fn print_fields(s: State) {
+    print_groups(s);
+    print_rows(s);
+    print_ula_palettes(s);
+    print_tile_palettes(s);
 }

@@ -1,6 +1,7 @@
 -- The answer on the state in the record is stored, or the record is refused (Exits).
 use Rattle.lent.specs.Calls.{changed}
-use Rattle.lent.proofs.Exits.{done-is, not-done, read-lawful, read-long, answered, unchanged, changed-by}
+use Rattle.lent_drawing.proofs.Done.{done-is, not-done}
+use Rattle.lent.proofs.Exits.{read-lawful, read-long, answered, unchanged, changed-by}
 use borrow.Author.Needs.{needs}
 use Rattle.lent.proofs.changes.change_record.Statement.{statement}
 use Rattle.lent.proofs.changes.change_record.Tie as tie

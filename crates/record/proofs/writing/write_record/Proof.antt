@@ -1,42 +1,42 @@
--- `write_record` is refused by the length, then by the state; else its callee puts the record whole.
-use borrow.Author.Tests.{eq-eqb, ne-eqb}
+-- `write_record` answers what refuses it (Written); where nothing does, its callee puts the record whole.
+use native.Mathlib.Omega.{arith}
 use mathlib.Core.Path.{sym, _∙_}
+use Rattle.reply.proofs.Done.{number-done}
+use Rattle.record.proofs.Written.{long-enough, put-whole, left-alone}
 use borrow.Author.Needs.{needs}
 use Rattle.record.proofs.writing.write_record.Statement.{statement}
 use Rattle.record.proofs.writing.write_record.Tie as tie
 
-returns : tie.Need-returns
-returns c = let e = ne-eqb _ _ (c .if1 .taken) in (rw e, rw e)
+write-reply-requires : tie.Need-write-reply-requires
+write-reply-requires c κs = search needs
 
-lawful-requires : tie.Need-lawful-requires
-lawful-requires c κs = search needs
+number-requires : tie.Need-number-requires
+number-requires c κs = search needs
 
 put-record-requires : tie.Need-put-record-requires
-put-record-requires c κs = search needs
+put-record-requires c κs =
+    let a = c .before .before .before .before .before .args in
+    let r = c .before .before .before .write-reply in
+    let t = c .before .if1 .taken in
+    let n = c .before .before .number .ensures in
+    long-enough (a .target .now) (a .state) (r .result) (r .ensures) (λ e. omega (arith, t, n, e))
 
 same-length : tie.Need-same-length
 same-length c = search needs
 
+returns : tie.Need-returns
+returns c =
+    let a = c .before .before .before .before .before .before .before .before .args in
+    let r = c .before .before .before .before .before .before .write-reply in
+    put-whole (a .target .now) (a .state) (r .result) (r .ensures) _ (number-done (r .result) (sym (c .before .before .before .before .before .number .ensures) ∙ c .before .before .before .before .if1 .taken)) (c .before .before .put-record .ensures)
+
 returns-2 : tie.Need-returns-2
 returns-2 c =
-    let d = c .before .before .before .before in
-    let e = eq-eqb _ _ (d .before .before .if1 .left) in
-    let l = sym (d .before .lawful .ensures) ∙ d .if2 .taken in
-    (rw (e, l), rw (e, l) (c .before .before .put-record .ensures))
-
-returns-3 : tie.Need-returns-3
-returns-3 c =
-    let e = eq-eqb _ _ (c .before .before .if1 .left) in
-    let l = sym (c .before .lawful .ensures) ∙ c .if2 .left in
-    (rw (e, l), rw (e, l))
+    let a = c .before .before .before .before .args in
+    let r = c .before .before .write-reply in
+    left-alone (a .target .now) (a .state) (r .result) (r .ensures) (λ e. c .if1 .left (c .before .number .ensures ∙ e))
 
 pub write-record-spec : {M : Type 1} → statement M
 write-record-spec =
     tie.close
-    (tie.spec
-    returns
-    lawful-requires
-    put-record-requires
-    same-length
-    returns-2
-    returns-3)
+    (tie.spec write-reply-requires number-requires put-record-requires same-length returns returns-2)

@@ -5,6 +5,9 @@ use borrow.Author.Needs.{needs}
 use Rattle.sample_refusals.proofs.asked.ask_lengths.Statement.{statement}
 use Rattle.sample_refusals.proofs.asked.ask_lengths.Tie as tie
 
+bordered-requires : tie.Need-bordered-requires
+bordered-requires c κs = search needs
+
 array-share-prefix-bank : tie.Need-array-share-prefix-bank
 array-share-prefix-bank c = search needs
 
@@ -45,6 +48,7 @@ pub ask-lengths-spec : {M : Type 1} → statement M
 ask-lengths-spec =
     tie.close
     (tie.spec
+    bordered-requires
     array-share-prefix-bank
     slice-aggregate-draw
     array-share-prefix-other

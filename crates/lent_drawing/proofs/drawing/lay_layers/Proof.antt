@@ -1,0 +1,48 @@
+-- The two layers joined are the composed line; without a tilemap the ULA's dots are.
+use mathlib.Core.Path.{sym, _∙_}
+use Rattle.lent_drawing.proofs.Drawn.{layers-on, layers-off}
+use borrow.Author.Needs.{needs}
+use Rattle.lent_drawing.proofs.drawing.lay_layers.Statement.{statement}
+use Rattle.lent_drawing.proofs.drawing.lay_layers.Tie as tie
+
+lay-ula-requires : tie.Need-lay-ula-requires
+lay-ula-requires c κs = search needs
+
+tiles-at-requires : tie.Need-tiles-at-requires
+tiles-at-requires c κs = search needs
+
+tilemap-on-requires : tie.Need-tilemap-on-requires
+tilemap-on-requires c κs = search needs
+
+lay-tiles-requires : tie.Need-lay-tiles-requires
+lay-tiles-requires c κs = search needs
+
+same-length : tie.Need-same-length
+same-length c = search needs
+
+returns : tie.Need-returns
+returns c =
+    let a = c .before .before .before .before .before .before .before .before .before .before .before .before .before .before .before .args in
+    layers-on (a .bytes .now) (a .ula .now) (a .tile .now) (a .line) _ _ (c .before .before .before .before .before .before .before .before .before .lay-ula .ensures) (c .before .before .lay-tiles .ensures)
+
+same-length-2 : tie.Need-same-length-2
+same-length-2 c = search needs
+
+returns-2 : tie.Need-returns-2
+returns-2 c =
+    let a = c .before .before .before .before .before .before .before .before .before .before .before .args in
+    let t = c .before .before .tiles-at in
+    layers-off (a .bytes .now) (a .ula .now) (a .tile .now) (a .line) _ (t .result) (c .before .before .before .before .before .lay-ula .ensures) (t .ensures) (sym (c .before .tilemap-on .ensures) ∙ c .if1 .left)
+
+pub lay-layers-spec : {M : Type 1} → statement M
+lay-layers-spec =
+    tie.close
+    (tie.spec
+    lay-ula-requires
+    tiles-at-requires
+    tilemap-on-requires
+    lay-tiles-requires
+    same-length
+    returns
+    same-length-2
+    returns-2)

@@ -1,0 +1,66 @@
+-- The groups that the ULA shows are read of the record, and its dots are those of the state in it.
+use mathlib.Core.Path.{refl}
+use Rattle.lists.specs.Tab.{tab}
+use Rattle.record_layout.specs.Record.{stateAs}
+use Rattle.lent_drawing.proofs.Drawn.{mask-read, border-read, ula-palette-read, ula-laid}
+use borrow.Author.Needs.{needs}
+use Rattle.lent_drawing.proofs.drawing.lay_ula.Statement.{statement}
+use Rattle.lent_drawing.proofs.drawing.lay_ula.Tie as tie
+
+ula-at-requires : tie.Need-ula-at-requires
+ula-at-requires c κs = search needs
+
+palette-at-requires : tie.Need-palette-at-requires
+palette-at-requires c κs = search needs
+
+ports-at-requires : tie.Need-ports-at-requires
+ports-at-requires c κs = search needs
+
+shared-slice-read-frame : tie.Need-shared-slice-read-frame
+shared-slice-read-frame c = search needs
+
+clip-at-requires : tie.Need-clip-at-requires
+clip-at-requires c κs = search needs
+
+plus-at-requires : tie.Need-plus-at-requires
+plus-at-requires c κs = search needs
+
+ula-place-requires : tie.Need-ula-place-requires
+ula-place-requires c κs = search needs
+
+colours-at-requires : tie.Need-colours-at-requires
+colours-at-requires c κs = search needs
+
+ula-row-requires : tie.Need-ula-row-requires
+ula-row-requires c κs =
+    let s = c .before .before .before .before .before .before .before .before .before .before .before .before .before .before .before in
+    (mask-read (s .args .bytes .now) (s .pre .0) _ (c .before .before .before .before .before .before .before .before .before .before .palette-at .ensures), border-read (s .args .bytes .now) (s .pre .0) _ (c .before .before .before .before .before .before .before .before .before .ports-at .ensures), s .pre .1, s .pre .2, s .pre .3)
+
+same-length : tie.Need-same-length
+same-length c = search needs
+
+returns : tie.Need-returns
+unfolding stateAs tab
+returns c =
+    let s = c .before .before .before .before .before .before .before .before .before .before .before .before .before .before .before .before .before .before in
+    let a = s .args in
+    let b = a .bytes .now in
+    let p = c .before .before .before .before .before .before .before .before .before .before .before .before .before .palette-at in
+    ula-laid b (a .bank .now) (a .line) _ _ _ _ _ _ _ _ (c .before .before .before .before .before .before .before .before .before .before .before .before .before .before .ula-at .ensures) (p .ensures) (c .before .before .before .before .before .before .before .before .before .before .before .before .ports-at .ensures) refl (c .before .before .before .before .before .before .before .before .before .before .clip-at .ensures) (c .before .before .before .before .before .before .before .before .before .plus-at .ensures)
+    (ula-palette-read b _ _ (c .before .before .before .before .before .before .before .colours-at .ensures) (p .result) (p .ensures) (c .before .before .before .before .before .before .before .before .ula-place .ensures .0)) (c .before .before .ula-row .ensures)
+
+pub lay-ula-spec : {M : Type 1} → statement M
+lay-ula-spec =
+    tie.close
+    (tie.spec
+    ula-at-requires
+    palette-at-requires
+    ports-at-requires
+    shared-slice-read-frame
+    clip-at-requires
+    plus-at-requires
+    ula-place-requires
+    colours-at-requires
+    ula-row-requires
+    same-length
+    returns)

@@ -1,0 +1,114 @@
+// Drawing from a lent record: what a line shows of it is read where it stands, and no whole state is made.
+ghost use mathlib.Core.Path.{_≡_};
+ghost use mathlib.Core.Bool.{true};
+ghost use mathlib.Core.List.{[], _∷_};
+ghost use lib.ListN.{length};
+ghost use Rattle.lists.specs.Tab.{tab};
+ghost use Rattle.reply.specs.First.{firstHit};
+ghost use Rattle.surface.specs.Lines.{isLine};
+ghost use Rattle.record_layout.specs.Record.{stateIn};
+ghost use Rattle.ula.specs.Lines.{ulaDot};
+ghost use Rattle.line.specs.Lines.{composedLine, drawnLine};
+ghost use Rattle.line_replies.specs.Replies.{lineReply, lengthsReply, stateReply, drawnIf};
+ghost use Rattle.lent_drawing.specs.Drawn.{lentDrawReply, lentDrawn};
+ghost use Rattle.lent_drawing.specs.Bounds.{RecordBounds, tilesLaid};
+use record_places::places;
+use reply::Reply;
+use reply::first_of;
+use reply::number;
+use surface::LineNumber;
+
+// The ULA's dots of a line.
+fn lay_ula(bytes: &[u8], bank: &[u8], line: LineNumber, dots: &mut [u16])
+    requires { ⌜ (RecordBounds (now bytes)) × (isLine line ≡ true) × (length (now bank) ≡ 16384) × (length (now dots) ≡ 640) ⌝ }
+    ensures { λ _. ⌜ now (dots .exit) ≡ tab (ulaDot (stateIn (now (bytes .entry))) (now (bank .entry)) line) 640 ⌝ }
+{
+    let u = record_groups::ula_at(bytes);
+    let p = record_groups::palette_at(bytes);
+    let ports = record_groups::ports_at(bytes);
+    let frame = bytes[places::FRAME];
+    let clip = record_groups::clip_at(bytes, places::ULA_CLIP);
+    let plus = record_groups::plus_at(bytes);
+    let pal = record_colours::colours_at(bytes, record_places::ula_place(p));
+    ula::ula_row(u, p, ports, frame, &clip, &plus, &pal, bank, line, dots);
+}
+
+// The tilemap's dots composed with the ULA's in dots.
+fn lay_tiles(bytes: &[u8], bank: &[u8], line: LineNumber, dots: &mut [u16])
+    requires { ⌜ (RecordBounds (now bytes)) × (isLine line ≡ true) × (length (now bank) ≡ 16384) × (length (now dots) ≡ 640) ⌝ }
+    ensures { λ _. ⌜ now (dots .exit) ≡ tilesLaid (stateIn (now (bytes .entry))) (now (bank .entry)) line (now (dots .entry)) ⌝ }
+{
+    let u = record_groups::ula_at(bytes);
+    let t = record_groups::tiles_at(bytes);
+    let clip = record_groups::clip_at(bytes, places::TILE_CLIP);
+    let pal = record_colours::colours_at(bytes, record_places::tile_place(t));
+    line_tiles::tiles_over(u, t, &clip, &pal, bank, line, dots);
+}
+
+// The composed line, by the layers of `line`. Where the tilemap is off its palette is not read, as one call with both palettes would
+// have to.
+fn lay_layers(bytes: &[u8], ula: &[u8], tile: &[u8], line: LineNumber, dots: &mut [u16])
+    requires { ⌜ (RecordBounds (now bytes)) × (isLine line ≡ true) × (length (now ula) ≡ 16384) × (length (now tile) ≡ 16384) × (length (now dots) ≡ 640) ⌝ }
+    ensures { λ _. ⌜ now (dots .exit) ≡ composedLine (stateIn (now (bytes .entry))) (now (ula .entry)) (now (tile .entry)) line ⌝ }
+{
+    lay_ula(bytes, ula, line, dots);
+    let t = record_groups::tiles_at(bytes);
+    if state::tilemap_on(t) {
+        lay_tiles(bytes, tile, line, dots);
+    }
+}
+
+// The finished line of a record that is judged.
+fn draw_line(bytes: &[u8], ula: &[u8], tile: &[u8], line: LineNumber, dots: &mut [u16])
+    requires { ⌜ (RecordBounds (now bytes)) × (isLine line ≡ true) × (length (now ula) ≡ 16384) × (length (now tile) ≡ 16384) × (length (now dots) ≡ 640) ⌝ }
+    ensures { λ _. ⌜ now (dots .exit) ≡ drawnLine (stateIn (now (bytes .entry))) (now (ula .entry)) (now (tile .entry)) line ⌝ }
+{
+    lay_layers(bytes, ula, tile, line, dots);
+    let u = record_groups::ula_at(bytes);
+    line_dots::finish_line(colour::widen(u.fallback), dots);
+}
+
+// The line of a record that is judged, or what the state in it is refused for.
+fn draw_judged(bytes: &[u8], ula: &[u8], tile: &[u8], line: LineNumber, dots: &mut [u16]) -> Reply
+    requires { ⌜ (RecordBounds (now bytes)) × (isLine line ≡ true) × (length (now ula) ≡ 16384) × (length (now tile) ≡ 16384) × (length (now dots) ≡ 640) ⌝ }
+    ensures { λ r. ⌜ (r ≡ stateReply (stateIn (now (bytes .entry)) .ula) (stateIn (now (bytes .entry)) .tiles) (stateIn (now (bytes .entry)) .palette) (stateIn (now (bytes .entry)) .ports))
+        × (now (dots .exit) ≡ drawnIf r (drawnLine (stateIn (now (bytes .entry))) (now (ula .entry)) (now (tile .entry)) line) (now (dots .entry))) ⌝ }
+{
+    let u = record_groups::ula_at(bytes);
+    let t = record_groups::tiles_at(bytes);
+    let p = record_groups::palette_at(bytes);
+    let ports = record_groups::ports_at(bytes);
+    let r = line_replies::state_reply(u, t, p, ports);
+    if number(r) == 0 {
+        draw_line(bytes, ula, tile, line, dots);
+    }
+    r
+}
+
+// What refuses a drawing before the state in the record is judged: the line, the lengths, the record.
+fn early_reply(line: LineNumber, ula: usize, tile: usize, dots: usize, stored: Reply) -> Reply
+    ensures { λ r. ⌜ r ≡ firstHit (lineReply line ∷ lengthsReply ula tile dots ∷ stored ∷ []) ⌝ }
+{
+    let lengths = line_replies::lengths_reply(ula, tile, dots);
+    first_of(line_replies::line_reply(line), first_of(lengths, stored))
+}
+
+// The 640 dots of a line of the state in a record, or the reply that refuses it and leaves the lent line.
+pub fn draw_record(
+    bytes: &[u8],
+    ula: &[u8],
+    tile: &[u8],
+    line: LineNumber,
+    dots: &mut [u16],
+) -> Reply
+    ensures { λ r. ⌜ (r ≡ lentDrawReply line (length (now (ula .entry))) (length (now (tile .entry))) (length (now (dots .entry))) (now (bytes .entry)))
+        × (now (dots .exit) ≡ lentDrawn line (now (ula .entry)) (now (tile .entry)) (now (dots .entry)) (now (bytes .entry))) ⌝ }
+{
+    let stored = record::record_reply(bytes);
+    let early = early_reply(line, ula.len(), tile.len(), dots.len(), stored);
+    if number(early) == 0 {
+        draw_judged(bytes, ula, tile, line, dots)
+    } else {
+        early
+    }
+}

@@ -1,0 +1,131 @@
+-- The claims on lent records. A record that is read holds a lawful and typed state; every change keeps it so, and the record of such a
+-- state reads back. A call on it is refused by 4 nowhere.
+use Prim.Native.Nat.{ℕ}
+use mathlib.Core.Path.{_≡_, refl, sym, ap, _∙_}
+use mathlib.Core.List.{List}
+use mathlib.Core.Bool.{Bool, true, false, cond, _&&_}
+use native.Mathlib.Omega.{arith}
+use lib.Dec.{eqb}
+use Rattle.lists.proofs.Cond.{if-true, either}
+use Rattle.reply.specs.declared.Reply.{Reply}
+use Rattle.reply.specs.declared.Reply.the-variants.{Done, NoLine, BankLength, BufferLength, NotLawful, NoMode, LoresWithTiles, NextWithPlus, FarOffset, NotRecord}
+use Rattle.reply.specs.Reply.{replyNumber, isDone}
+use Rattle.reply.proofs.Done.{is-done}
+use Rattle.reply.proofs.Order.{hit-each}
+use Rattle.state.specs.declared.State.{State}
+use Rattle.state.specs.declared.Answer.{Answer}
+use Rattle.state.specs.Answer.{done}
+use Rattle.state.specs.Lawful.{lawfulState}
+use Rattle.state.specs.Typed.{Typed}
+use Rattle.frame.proofs.Claims.{frameLawful, frame-done}
+use Rattle.surface.specs.declared.lines.LineNumber.{LineNumber}
+use Rattle.surface.specs.Lines.{isLine}
+use Rattle.register_answers.specs.declared.Reading.{Reading}
+use Rattle.register_answers.specs.Answers.{unread}
+use Rattle.register_laws.specs.Claims.{LawfulStays}
+use Rattle.register_laws.proofs.Claims.{lawfulStays, neverFour}
+use Rattle.record_layout.specs.Record.{accepted, stateIn, readRecord}
+use Rattle.record_layout.specs.Version.{current}
+use Rattle.record_layout.proofs.Claims.{readLawful}
+use Rattle.record_layout.proofs.RoundTrip.{record-read, answer, state-lawful}
+use Rattle.record_layout.proofs.Stages.{accepts, refuses}
+use Rattle.line_replies.specs.Replies.{lineReply, lengthsReply, stateReply, loresWithTiles, nextWithPlus, noMode, farOffset}
+use Rattle.lent.specs.declared.changes.Change.{Change}
+use Rattle.lent.specs.declared.changes.Change.the-variants.{NextFrame, Register, Port}
+use Rattle.lent.specs.declared.queries.Query.{Query}
+use Rattle.lent.specs.declared.queries.Query.the-variants as query
+use Rattle.lent.specs.Calls.{changed, asked, ByteWritten}
+use Rattle.lent.specs.Lent.{lentAnswer, lentAfter, lentReading}
+use Rattle.lent_drawing.specs.Drawn.{lentDrawReply}
+use Rattle.lent_laws.specs.Claims.{ChangeReadsBack, NeverNotLawful}
+
+-- every change keeps a lawful and typed state so
+change-keeps : (c : Change) (s : State) → ByteWritten c → Typed s → lawfulState s ≡ true
+    → (lawfulState (changed c s .state) ≡ true) × Typed (changed c s .state)
+unfolding LawfulStays
+change-keeps NextFrame s b t h = frameLawful s h t
+change-keeps (Register n v) s b t h = lawfulStays .0 s n v b t h
+change-keeps (Port n v) s b t h = lawfulStays .1 s n v b t h
+
+-- an answer that is done reads back, where its state is lawful and typed
+back : (b : List ℕ) (a : Answer) → lawfulState (a .state) ≡ true → Typed (a .state) → a .reply ≡ Done → readRecord (lentAfter b a) ≡ done (a .state)
+unfolding lentAfter
+back b a h t d = ap readRecord (if-true _ _ _ (ap isDone d)) ∙ record-read (a .state) t h
+
+pub changeReadsBack : ChangeReadsBack
+unfolding lentAnswer
+changeReadsBack b c y w d =
+    let r = readLawful b y in
+    let k = change-keeps c (readRecord b .state) w (r .1) (r .0) in
+    back b (lentAnswer (changed c) b)
+    (either (λ a. lawfulState (a .state) ≡ true) (isDone (readRecord b .reply)) (changed c (readRecord b .state)) (readRecord b) (k .0) (r .0))
+    (either (λ a. Typed (a .state)) (isDone (readRecord b .reply)) (changed c (readRecord b .state)) (readRecord b) (k .1) (r .1)) d
+
+-- ---- never 4
+
+abbrev NotFour : Reply → Type 0
+NotFour r = r ≡ NotLawful → ⊥
+
+-- a reply with another number
+other : (r : Reply) (n : ℕ) → replyNumber r ≡ n → (n ≡ 4 → ⊥) → NotFour r
+other r n e z d = z (sym e ∙ ap replyNumber d)
+
+record-not-four : (b : List ℕ) → NotFour (readRecord b .reply)
+unfolding readRecord
+record-not-four b = go (accepted current b) refl
+  where
+    go : (t : Bool) → accepted current b ≡ t → NotFour (readRecord b .reply)
+    go true e = rw (accepts current b e) (other Done 0 refl (λ z. omega arith))
+    go false e = rw (refuses current b e) (other NotRecord 13 refl (λ z. omega arith))
+
+state-read : (b : List ℕ) → readRecord b .reply ≡ Done → readRecord b .state ≡ stateIn b
+state-read b r = ap (λ (a : Answer). a .state) (answer b r)
+
+-- a call on the state of a record that is read, or the record's own reply
+asking : {A : Type 0} (reply : A → Reply) (b : List ℕ) (x y : A) → (lawfulState (readRecord b .state) ≡ true → NotFour (reply x))
+    → reply y ≡ readRecord b .reply → NotFour (reply (cond (isDone (readRecord b .reply)) x y))
+asking reply b x y h e = go (isDone (readRecord b .reply)) refl
+  where
+    go : (t : Bool) → isDone (readRecord b .reply) ≡ t → NotFour (reply (cond t x y))
+    go true d =
+        let r = is-done (readRecord b .reply) d in
+        h (ap lawfulState (state-read b r) ∙ state-lawful b r)
+    go false d = rw e (record-not-four b)
+
+change-not-four : (c : Change) (s : State) → lawfulState s ≡ true → NotFour (changed c s .reply)
+change-not-four NextFrame s h = rw (frame-done s h) (other Done 0 refl (λ z. omega arith))
+change-not-four (Register n v) s h = neverFour .registers s n v h
+change-not-four (Port n v) s h = neverFour .ports s n v h
+
+query-not-four : (q : Query) (s : State) → lawfulState s ≡ true → NotFour (asked q s .reply)
+query-not-four (query.Register n) s h = neverFour .register-reads s n h
+query-not-four (query.Port n) s h = neverFour .port-reads s n h
+
+line-not-four : (l : LineNumber) → NotFour (lineReply l)
+unfolding lineReply
+line-not-four l = either NotFour (isLine l) _ _ (other Done 0 refl (λ z. omega arith)) (other NoLine 1 refl (λ z. omega arith))
+
+lengths-not-four : (ula tile dots : ℕ) → NotFour (lengthsReply ula tile dots)
+unfolding lengthsReply
+lengths-not-four ula tile dots =
+    either NotFour (eqb ula 16384 && eqb tile 16384) _ _
+    (either NotFour (eqb dots 640) _ _ (other Done 0 refl (λ z. omega arith)) (other BufferLength 3 refl (λ z. omega arith)))
+    (other BankLength 2 refl (λ z. omega arith))
+
+state-not-four : (s : State) → NotFour (stateReply (s .ula) (s .tiles) (s .palette) (s .ports))
+unfolding stateReply
+state-not-four s =
+    either NotFour (loresWithTiles (s .ula) (s .tiles)) _ _ (other LoresWithTiles 6 refl (λ z. omega arith))
+    (either NotFour (nextWithPlus (s .palette) (s .ports)) _ _ (other NextWithPlus 7 refl (λ z. omega arith))
+    (either NotFour (noMode (s .ula) (s .ports)) _ _ (other NoMode 5 refl (λ z. omega arith))
+    (either NotFour (farOffset (s .tiles)) _ _ (other FarOffset 8 refl (λ z. omega arith)) (other Done 0 refl (λ z. omega arith)))))
+
+pub neverNotLawful : NeverNotLawful
+unfolding lentAnswer lentReading lentDrawReply
+neverNotLawful = record {
+  changes = λ b c. asking (λ (a : Answer). a .reply) b (changed c (readRecord b .state)) (readRecord b) (change-not-four c (readRecord b .state)) refl;
+  queries = λ b q. asking (λ (a : Reading). a .reply) b (asked q (readRecord b .state)) (unread (readRecord b .reply)) (query-not-four q (readRecord b .state)) refl;
+  drawings =
+      λ b line ula tile dots. hit-each NotFour _ (other Done 0 refl (λ z. omega arith))
+      (line-not-four line, (lengths-not-four ula tile dots, (record-not-four b, (state-not-four (readRecord b .state), tt))));
+}

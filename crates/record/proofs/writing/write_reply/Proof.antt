@@ -1,0 +1,26 @@
+-- The two refusals in their order.
+use lib.Dec.{eqb}
+use Rattle.state.specs.Lawful.{lawfulState}
+use Rattle.record_layout.specs.Record.{recordLength}
+use Rattle.record.proofs.Written.{length-first}
+use borrow.Author.Needs.{needs}
+use Rattle.record.proofs.writing.write_reply.Statement.{statement}
+use Rattle.record.proofs.writing.write_reply.Tie as tie
+
+length-reply-requires : tie.Need-length-reply-requires
+length-reply-requires c κs = search needs
+
+lawful-reply-requires : tie.Need-lawful-reply-requires
+lawful-reply-requires c κs = search needs
+
+first-of-requires : tie.Need-first-of-requires
+first-of-requires c κs = search needs
+
+returns : tie.Need-returns
+returns c =
+    let a = c .before .before .before .args in
+    length-first (eqb (a .length) recordLength) (lawfulState (a .s)) _ _ _ (c .before .before .length-reply .ensures) (c .before .lawful-reply .ensures) (c .first-of .ensures)
+
+pub write-reply-spec : {M : Type 1} → statement M
+write-reply-spec =
+    tie.close (tie.spec length-reply-requires lawful-reply-requires first-of-requires returns)

@@ -1,0 +1,44 @@
+-- The ULA's registers of the state are read at their places in the layout, by computation.
+use mathlib.Core.Path.{refl}
+use Rattle.record_layout.specs.Record.{stateAs}
+use borrow.Author.Needs.{needs}
+use Rattle.record_groups.proofs.groups.ula_at.Statement.{statement}
+use Rattle.record_groups.proofs.groups.ula_at.Tie as tie
+
+shared-slice-read-t3 : tie.Need-shared-slice-read-t3
+shared-slice-read-t3 c = search needs
+
+shared-slice-read-t5 : tie.Need-shared-slice-read-t5
+shared-slice-read-t5 c = search needs
+
+shared-slice-read-t7 : tie.Need-shared-slice-read-t7
+shared-slice-read-t7 c = search needs
+
+shared-slice-read-t9 : tie.Need-shared-slice-read-t9
+shared-slice-read-t9 c = search needs
+
+shared-slice-read-t11 : tie.Need-shared-slice-read-t11
+shared-slice-read-t11 c = search needs
+
+shared-slice-read-t13 : tie.Need-shared-slice-read-t13
+shared-slice-read-t13 c = search needs
+
+shared-slice-read-t15 : tie.Need-shared-slice-read-t15
+shared-slice-read-t15 c = search needs
+
+returns : tie.Need-returns
+unfolding stateAs
+returns c = refl
+
+pub ula-at-spec : {M : Type 1} → statement M
+ula-at-spec =
+    tie.close
+    (tie.spec
+    shared-slice-read-t3
+    shared-slice-read-t5
+    shared-slice-read-t7
+    shared-slice-read-t9
+    shared-slice-read-t11
+    shared-slice-read-t13
+    shared-slice-read-t15
+    returns)
