@@ -1,7 +1,6 @@
 // The two banks of the example.
 ghost use mathlib.Core.Path.{_≡_};
 ghost use Prim.Native.Nat.{_<_};
-ghost use lib.ListN.{length};
 ghost use Rattle.lists.specs.Tab.{tab};
 ghost use Rattle.example_banks.specs.Banks.{ulaByte, mapByte, definitionByte, tileByte, lettered};
 

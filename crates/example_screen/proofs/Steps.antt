@@ -1,5 +1,5 @@
 -- One colour more, and one palette offset more: the turns of the painting loops.
-use Prim.Native.Nat.{ℕ, suc, _+_, _*_, _%_}
+use Prim.Native.Nat.{ℕ, _+_, _*_, _%_}
 use mathlib.Core.Path.{_≡_}
 use native.Mathlib.Numerals.{add-one}
 use Rattle.state.specs.declared.State.{State}

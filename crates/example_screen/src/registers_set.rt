@@ -1,6 +1,5 @@
 // The state of the example, from reset by register writes.
 ghost use mathlib.Core.Path.{_≡_};
-ghost use Prim.Native.Nat.{_<_};
 ghost use Rattle.example_screen.specs.Written.{afterWrite, zxColour, ulaPainted, tilePainted, tilemapSet, exampleState};
 use state::State;
 

@@ -1,5 +1,4 @@
 // Whole files by name. No contract can say what a file holds.
-ghost use Prim.Native.Nat.{_≤_};
 ghost use lib.ListN.{length};
 ghost use Rattle.host.specs.Read.{within};
 

@@ -1,26 +1,20 @@
 -- Shades: each is a colour or 512, and composing a shade is composing the tile dot.
-use Prim.Native.Nat.{ℕ, zero, suc, _+_, _*_, _/_, _%_, _≤_, _<_}
+use Prim.Native.Nat.{ℕ, _+_, _*_, _/_, _%_, _≤_, _<_}
 use mathlib.Core.Path.{_≡_, refl, sym, ap, _∙_}
-use mathlib.Core.List.{List, [], _∷_}
+use mathlib.Core.List.{List}
 use mathlib.Core.Bool.{Bool, true, false, cond, not, _||_}
 use native.Mathlib.Omega.{arith}
 use lib.ListN.{getD}
-use lib.Dec.{eqb, leb}
-use borrow.Author.Tests.{leb-true, eqb-true}
-use Rattle.lists.proofs.Cond.{left-true, right-true}
+use lib.Dec.{eqb}
+use borrow.Author.Tests.{eqb-true}
 use Rattle.lists.proofs.Tab.{getD-tab}
 use Rattle.state.specs.Lawful.{allColours}
+use Rattle.state.proofs.Colours.{colour-at}
 use Rattle.surface.specs.Dots.{inside, clipped, topDot}
 use Rattle.tilemap.specs.Dots.{clear, shows}
 use Rattle.tilemap.specs.Bounds.{ShadeBounds}
 use Rattle.line_dots.specs.Compose.{tileColour, stencilled, composed}
 use Rattle.line_dots.specs.Shades.{unlessTransparent, shadesOf, shadeOver}
-
--- a palette of colours has one at each index
-colour-at : (pal : List ℕ) → allColours pal ≡ true → (i : ℕ) → getD pal i 0 ≤ 511
-colour-at [] e i = omega arith
-colour-at (x ∷ xs) e zero = leb-true x 511 (left-true (leb x 511) (allColours xs) e)
-colour-at (x ∷ xs) e (suc i) = colour-at xs (right-true (leb x 511) (allColours xs) e) i
 
 -- 512 or a colour
 at-most-512 : (b : Bool) (x : ℕ) → x ≤ 511 → cond b 512 x ≤ 512
@@ -32,7 +26,7 @@ unfolding shadesOf
 shaded shades pal transparent q e =
     record {
       most =
-          λ i h. rw (q, getD-tab (λ (j : ℕ). unlessTransparent transparent j (getD pal j 0)) 256 i h) (at-most-512 (eqb (i % 16) transparent) (getD pal i 0) (colour-at pal e i));
+          λ i h. rw (q, getD-tab (λ (j : ℕ). unlessTransparent transparent j (getD pal j 0)) 256 i h) (at-most-512 (eqb (i % 16) transparent) (getD pal i 0) (colour-at pal i e));
     }
 
 -- whichever palette is shown
@@ -85,6 +79,6 @@ module _ (stencil : Bool) (pal : List ℕ) (u : ℕ) where
       go : (b c : Bool)
           → shadeOver stencil u (cond c (cond b 512 (getD pal i 0) + h * 1024) 512) ≡ composed stencil pal u (cond (b || not c) clear (shows i (eqb h 1)))
       go true true = shade-clear h lh
-      go false true = shade-solid i h (colour-at pal a i) lh
+      go false true = shade-solid i h (colour-at pal i a) lh
       go true false = shade-clear 0 (omega arith)
       go false false = shade-clear 0 (omega arith)

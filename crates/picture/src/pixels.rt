@@ -1,6 +1,6 @@
 // The pixels of a line: three bytes a dot, red, green and blue.
 ghost use mathlib.Core.Path.{_≡_};
-ghost use Prim.Native.Nat.{_*_, _<_};
+ghost use Prim.Native.Nat.{_<_};
 ghost use lib.ListN.{length};
 ghost use Rattle.lists.specs.Tab.{tab};
 ghost use Rattle.lists.specs.Search.{all};

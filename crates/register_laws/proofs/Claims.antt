@@ -30,7 +30,8 @@ use Rattle.registers.specs.Registers.{writeRegister, writePort, readRegister, r
 use Rattle.reply.specs.Reply.{replyNumber}
 use Rattle.register_answers.specs.declared.Reading.{Reading}
 use Rattle.register_laws.specs.Claims.{Each, none, _▷_, NoneOf, LawfulStays, RefusedSame, NeverFour, Takes, ReadsBack, PortsTake, PortsReadBack, EightOnce, NineOnce, NineTwice, NineRefused, HalfDropped, HalfKept, fourWrites, ClipsTake, FourClipWrites, TurnsRestarted, ClipReads, TurnsReads, ColourReads, ModeReads, WriteOnly, portNumbers, OthersMissing}
-use Rattle.register_laws.proofs.Parts.{Parts, join, split, apart, colour-at, palette-lawful}
+use Rattle.state.proofs.Colours.{colour-at}
+use Rattle.register_laws.proofs.Parts.{Parts, join, split, apart, palette-lawful}
 use Rattle.register_laws.proofs.Rows.{Sound, by-rows, NotFour, by-reads, readNumbers, no-write-row, no-read-row}
 use Rattle.register_laws.proofs.Effects.{registers-sound, ports-sound, ula-turn, tile-turn, ula-clip, tile-clip}
 use Rattle.register_laws.proofs.Calls.{write-row, port-row, read-row, read-port-row, accepted, if-done}

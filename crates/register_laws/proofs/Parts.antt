@@ -3,9 +3,9 @@ use mathlib.Core.Path.{_≡_, refl}
 use mathlib.Core.List.{List, [], _∷_}
 use mathlib.Core.Bool.{Bool, true}
 use Prim.Native.Nat.{ℕ, zero, suc, _≤_}
-use lib.ListN.{set, getD}
-use lib.Dec.{eqb, lit≤}
-use borrow.Author.Tests.{le-leb, leb-true}
+use lib.ListN.{set}
+use lib.Dec.{eqb}
+use borrow.Author.Tests.{le-leb}
 use Rattle.lists.proofs.Cond.{either, both, left-true, right-true}
 use Rattle.lists.proofs.Chain.{chain, chain-apart}
 use Rattle.state.specs.declared.State.{State}
@@ -105,11 +105,6 @@ set-colours [] i c h k = refl
 set-colours (x ∷ xs) zero c h k = both _ _ (le-leb c 511 k) (right-true (colourFits x) (allColours xs) h)
 set-colours (x ∷ xs) (suc i) c h k =
     both _ _ (left-true (colourFits x) (allColours xs) h) (set-colours xs i c (right-true (colourFits x) (allColours xs) h) k)
-
-pub colour-at : (l : List ℕ) (i : ℕ) → allColours l ≡ true → getD l i 0 ≤ 511
-colour-at [] i h = lit≤ tt
-colour-at (x ∷ xs) zero h = leb-true x 511 (left-true (colourFits x) (allColours xs) h)
-colour-at (x ∷ xs) (suc i) h = colour-at xs i (right-true (colourFits x) (allColours xs) h)
 
 -- what holds of the four palettes holds of the one chosen
 palette-at : (P : List ℕ → Type 0) (n : ℕ) (s : State) → P (s .ulafirst) → P (s .ulasecond) → P (s .tilefirst) → P (s .tilesecond)

@@ -1,14 +1,22 @@
--- All colours of a palette are tested one after the other.
+-- All colours of a palette are tested one after the other, and each keeps the bound.
 use mathlib.Core.Path.{_≡_, sym, ap, _∙_}
-use mathlib.Core.List.{List}
+use mathlib.Core.List.{List, [], _∷_}
 use mathlib.Core.Bool.{Bool, true, _&&_}
-use Prim.Native.Nat.{ℕ, _+_, _≤_, _<_}
+use Prim.Native.Nat.{ℕ, zero, suc, _+_, _≤_, _<_}
 use native.Mathlib.Numerals.{add-one}
 use lib.ListN.{length, drop, getD, drop-of-length-le}
 use lib.Seq.{drop-cons}
-use Rattle.lists.proofs.Cond.{and-assoc, and-true}
+use native.Mathlib.Omega.{arith}
+use borrow.Author.Tests.{leb-true}
+use Rattle.lists.proofs.Cond.{and-assoc, and-true, left-true, right-true}
 use Rattle.register_bounds.specs.Bounds.{colourFits}
 use Rattle.state.specs.Lawful.{allColours}
+
+-- a palette of colours has one at each index, and 0 past its end
+pub colour-at : (pal : List ℕ) (i : ℕ) → allColours pal ≡ true → getD pal i 0 ≤ 511
+colour-at [] i e = omega arith
+colour-at (x ∷ xs) zero e = leb-true x 511 (left-true (colourFits x) (allColours xs) e)
+colour-at (x ∷ xs) (suc i) e = colour-at xs i (right-true (colourFits x) (allColours xs) e)
 
 pub colours-more : (a : List ℕ) (i : ℕ) (ok : Bool) → i < length a → allColours a ≡ (ok && allColours (drop i a))
     → allColours a ≡ ((ok && colourFits (getD a i 0)) && allColours (drop (i + 1) a))

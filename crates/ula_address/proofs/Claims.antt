@@ -5,7 +5,6 @@ use mathlib.Core.Bool.{Bool, true, false, cond}
 use lib.Dec.{leb}
 use native.Mathlib.Omega.{arith}
 use borrow.Author.Tests.{leb-true, leb-false}
-use Rattle.ula_mode.specs.declared.modes.Mode.{Mode}
 use Rattle.ula_mode.specs.declared.modes.Mode.the-variants.{Lores, Standard, Second, HighColour, HighResolution, Missing}
 use Rattle.ula_byte.specs.Bytes.{byteAddress, hiresAddress, loresAddress}
 use Rattle.ula_address.specs.Claims.{AddressesInBank, AddressesOneToOne, AttributesApart}

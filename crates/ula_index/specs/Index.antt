@@ -1,6 +1,6 @@
 -- ULA dots, "Index by attribute".
 use Prim.Native.Nat.{ℕ, _+_, _*_, _/_, _%_}
-use mathlib.Core.Bool.{Bool, true, false, cond, not, _&&_}
+use mathlib.Core.Bool.{Bool, false, cond, not, _&&_}
 use lib.Bits.{bitAnd}
 use lib.Dec.{eqb, leb}
 use Rattle.ula_scheme.specs.declared.schemes.Scheme.{Scheme}
