@@ -12,7 +12,7 @@ use Rattle.reply.specs.declared.Reply.the-variants.{Done}
 use Rattle.reply.specs.Reply.{isDone}
 use Rattle.reply.specs.First.{firstHit}
 use Rattle.reply.proofs.Order.{all-done, last-hit, hit-later, hit-early}
-use Rattle.state.specs.Bits.{ulaOn, ulaSecondShown, tileSecondShown, tilemapOn}
+use Rattle.state_bits.specs.Bits.{ulaOn, ulaSecondShown, tileSecondShown, tilemapOn}
 use Rattle.state.specs.Lawful.{allColours}
 use Rattle.state.proofs.Kept.{lawful-kept}
 use Rattle.state.specs.declared.State.{State}

@@ -53,7 +53,7 @@ fn lay_layers(bytes: &[u8], ula: &[u8], tile: &[u8], line: LineNumber, dots: &mu
 {
     lay_ula(bytes, ula, line, dots);
     let t = record_groups::tiles_at(bytes);
-    if state::tilemap_on(t) {
+    if state_bits::tilemap_on(t) {
         lay_tiles(bytes, tile, line, dots);
     }
 }

@@ -2,7 +2,7 @@
 use mathlib.Core.Path.{_≡_, refl, sym, subst}
 use mathlib.Core.Bool.{true, cond}
 use borrow.Author.Tests.{leb-true, ltb-true}
-use Rattle.state.specs.Bits.{tileSecondShown}
+use Rattle.state_bits.specs.Bits.{tileSecondShown}
 use Rattle.state.specs.Lawful.{lawfulState}
 use Rattle.state.proofs.Kept.{lawful-kept}
 use Rattle.state.specs.declared.State.{State}

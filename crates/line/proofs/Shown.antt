@@ -8,7 +8,7 @@ use lib.ListN.{getD}
 use Rattle.lists.specs.Tab.{tab}
 use Rattle.lists.proofs.Tab.{tab-ext, length-tab}
 use Rattle.lists.proofs.Cond.{right-false}
-use Rattle.state.specs.Bits.{ulaOn, ulaSecondShown, tilemapOn, tileSecondShown, stencilSet}
+use Rattle.state_bits.specs.Bits.{ulaOn, ulaSecondShown, tilemapOn, tileSecondShown, stencilSet}
 use Rattle.state.specs.declared.State.{State}
 use Rattle.surface.specs.Dots.{inside}
 use Rattle.surface.specs.declared.lines.LineNumber.{LineNumber}

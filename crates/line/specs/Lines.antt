@@ -4,7 +4,7 @@ use mathlib.Core.List.{List}
 use mathlib.Core.Bool.{cond}
 use Rattle.lists.specs.Tab.{tab}
 use Rattle.colour.specs.Bytes.{widened}
-use Rattle.state.specs.Bits.{ulaOn, tileSecondShown}
+use Rattle.state_bits.specs.Bits.{ulaOn, tileSecondShown}
 use Rattle.state.specs.declared.State.{State}
 use Rattle.surface.specs.Dots.{topDot}
 use Rattle.surface.specs.declared.lines.LineNumber.{LineNumber}

@@ -4,7 +4,7 @@ use Prim.Native.Nat.{ℕ, _≤_, _<_}
 use mathlib.Core.Path.{_≡_}
 use mathlib.Core.List.{List}
 use mathlib.Core.Bool.{true}
-use Rattle.state.specs.Bits.{tilemapOn}
+use Rattle.state_bits.specs.Bits.{tilemapOn}
 use Rattle.register_bounds.specs.Bounds.{isMask}
 use Rattle.state.specs.Lawful.{allColours}
 use Rattle.state.specs.Reset.{resetState}

@@ -2,7 +2,7 @@
 ghost use mathlib.Core.Path.{_≡_};
 ghost use mathlib.Core.Bool.{true, cond};
 ghost use lib.ListN.{length};
-ghost use Rattle.state.specs.Bits.{ulaSecondShown, tileSecondShown};
+ghost use Rattle.state_bits.specs.Bits.{ulaSecondShown, tileSecondShown};
 ghost use Rattle.state.specs.Lawful.{lawfulState};
 ghost use Rattle.surface.specs.Lines.{isLine};
 ghost use Rattle.line.specs.Lines.{composedLine};
@@ -18,7 +18,7 @@ use surface::LineNumber;
 fn tile_palette<'a>(t: Tiles, first: &'a [u16; 256], second: &'a [u16; 256]) -> &'a [u16; 256]
     ensures { λ r. ⌜ now r ≡ cond (tileSecondShown t) (now (second .entry)) (now (first .entry)) ⌝ }
 {
-    if state::tile_second_shown(t) {
+    if state_bits::tile_second_shown(t) {
         second
     } else {
         first
@@ -52,7 +52,7 @@ pub fn composed_shown(
         line,
         out,
     );
-    if state::tilemap_on(v.tiles) {
+    if state_bits::tilemap_on(v.tiles) {
         tiles_over(v.ula, v.tiles, &v.tileclip, tilepal, tile, line, out);
     }
 }

@@ -6,7 +6,7 @@ use lib.ListN.{getD}
 use lib.Bits.{bitAnd}
 use lib.Dec.{eqb}
 use Rattle.lists.specs.Tab.{tab}
-use Rattle.state.specs.Bits.{ulaOn, stencilSet, tilemapOn}
+use Rattle.state_bits.specs.Bits.{ulaOn, stencilSet, tilemapOn}
 use Rattle.state.specs.declared.Ula.{Ula}
 use Rattle.state.specs.declared.Tiles.{Tiles}
 use Rattle.surface.specs.Dots.{topDot}

@@ -9,9 +9,9 @@ use state::Ula;
 pub fn stencil_on(u: Ula, t: Tiles) -> bool
     ensures { λ r. ⌜ r ≡ stencilOn u t ⌝ }
 {
-    let ula = state::ula_on(u);
-    let tiles = state::tilemap_on(t);
-    state::stencil_set(u) & ula & tiles
+    let ula = state_bits::ula_on(u);
+    let tiles = state_bits::tilemap_on(t);
+    state_bits::stencil_set(u) & ula & tiles
 }
 
 // A colour of the palette at an index, or 512 where the pixel there is the transparent one.

@@ -12,7 +12,7 @@ use lib.Dec.{eqb}
 use borrow.Author.Tests.{eqb-false}
 use Rattle.lists.proofs.Cond.{either}
 use Rattle.colour.specs.Bytes.{widened, plusColour}
-use Rattle.state.specs.Bits.{ulaSecondShown, tileSecondShown}
+use Rattle.state_bits.specs.Bits.{ulaSecondShown, tileSecondShown}
 use Rattle.state.specs.declared.State.{State}
 use Rattle.state.specs.Lawful.{allColours, lawfulState}
 use Rattle.state.specs.Typed.{Typed}

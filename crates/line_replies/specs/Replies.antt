@@ -7,7 +7,7 @@ use Rattle.reply.specs.Reply.{isDone}
 use Rattle.reply.specs.First.{firstHit}
 use Rattle.reply.specs.declared.Reply.{Reply}
 use Rattle.reply.specs.declared.Reply.the-variants.{Done, NoLine, BankLength, BufferLength, NotLawful, NoMode, LoresWithTiles, NextWithPlus, FarOffset}
-use Rattle.state.specs.Bits.{loresOn, nextOn, ulaOn, tilemapOn, columns80, widthOf, xOffset}
+use Rattle.state_bits.specs.Bits.{loresOn, nextOn, ulaOn, tilemapOn, columns80, widthOf, xOffset}
 use Rattle.state.specs.Lawful.{lawfulState}
 use Rattle.state.specs.declared.State.{State}
 use Rattle.state.specs.declared.Ula.{Ula}

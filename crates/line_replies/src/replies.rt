@@ -49,28 +49,28 @@ pub fn lawful_reply(s: State) -> Reply
 fn lores_with_tiles(u: Ula, t: Tiles) -> bool
     ensures { λ r. ⌜ r ≡ loresWithTiles u t ⌝ }
 {
-    state::lores_on(u) & state::tilemap_on(t)
+    state_bits::lores_on(u) & state_bits::tilemap_on(t)
 }
 
 fn next_with_plus(p: Palette, ports: Ports) -> bool
     ensures { λ r. ⌜ r ≡ nextWithPlus p ports ⌝ }
 {
-    state::next_on(p) & ports.plus
+    state_bits::next_on(p) & ports.plus
 }
 
 fn no_mode(u: Ula, ports: Ports) -> bool
     ensures { λ r. ⌜ r ≡ noMode u ports ⌝ }
 {
     let missing = ula_mode::is_missing(ula_mode::mode_of(u, ports));
-    state::ula_on(u) & missing
+    state_bits::ula_on(u) & missing
 }
 
 fn far_offset(t: Tiles) -> bool
     ensures { λ r. ⌜ r ≡ farOffset t ⌝ }
 {
-    let width = state::width_of(state::columns80(t));
-    let x = state::x_offset(t);
-    state::tilemap_on(t) & (width <= x)
+    let width = state_bits::width_of(state_bits::columns80(t));
+    let x = state_bits::x_offset(t);
+    state_bits::tilemap_on(t) & (width <= x)
 }
 
 // What the state alone is refused for.

@@ -8,7 +8,7 @@ use lib.ListN.{getD, length}
 use lib.Dec.{eqb}
 use Rattle.lists.specs.Tab.{tab}
 use Rattle.lists.proofs.Tab.{tab-ext, tab-entries, getD-tab}
-use Rattle.state.specs.Bits.{widthOf, ulaOn}
+use Rattle.state_bits.specs.Bits.{widthOf, ulaOn}
 use Rattle.state.specs.Lawful.{allColours}
 use Rattle.state.specs.declared.Ula.{Ula}
 use Rattle.state.specs.declared.Tiles.{Tiles}

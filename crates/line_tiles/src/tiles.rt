@@ -4,7 +4,7 @@ ghost use mathlib.Core.Bool.{true};
 ghost use Prim.Native.Nat.{ℕ, _<_, _≤_};
 ghost use lib.ListN.{length, getD};
 ghost use Rattle.lists.specs.Tab.{tab};
-ghost use Rattle.state.specs.Bits.{ulaOn};
+ghost use Rattle.state_bits.specs.Bits.{ulaOn};
 ghost use Rattle.state.specs.Lawful.{allColours};
 ghost use Rattle.tilemap_entries.specs.Bounds.{SetupBounds};
 ghost use Rattle.tilemap_setup.specs.Setup.{setupOf, windowOf};
@@ -74,7 +74,7 @@ pub fn tiles_over(
         (tileDot (windowOf t (now (clip .entry)) line) (setupOf t (ulaOn u)) (t .transparent) (now (bank .entry)) (line .0) k)) 640 ⌝ }
 {
     let w = tilemap_setup::window_of(t, clip, line);
-    let l = tilemap_setup::setup_of(t, state::ula_on(u));
+    let l = tilemap_setup::setup_of(t, state_bits::ula_on(u));
     let stencil = stencil_on(u, t);
     layered(l, w, t.transparent, stencil, pal, bank, line, out);
 }

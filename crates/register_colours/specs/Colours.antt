@@ -6,7 +6,7 @@ use lib.ListN.{getD, set}
 use lib.Dec.{eqb}
 use Rattle.register_bounds.specs.Bounds.{choiceOf}
 use Rattle.state.specs.declared.State.{State}
-use Rattle.state.specs.Bits.{indexStays}
+use Rattle.state_bits.specs.Bits.{indexStays}
 use Rattle.state.specs.Groups.{paletteWithIndex, paletteWithoutHalf}
 use Rattle.state.specs.With.{withPalette, withUlaFirst, withUlaSecond, withTileFirst, withTileSecond}
 

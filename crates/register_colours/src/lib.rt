@@ -3,7 +3,7 @@ ghost use mathlib.Core.Path.{_≡_};
 ghost use Rattle.register_colours.specs.Colours.{colourAt, colourStored, nextIndex, colourPut};
 use register_bounds::choice_of;
 use state::State;
-use state::index_stays;
+use state_bits::index_stays;
 
 // The colour where the palette registers point.
 pub fn chosen_colour(s: State) -> u16

@@ -13,7 +13,7 @@ use Rattle.reply.specs.declared.Reply.the-variants.{Done, NotLawful, NoRegister
 use Rattle.state.specs.declared.State.{State}
 use Rattle.state.specs.declared.Answer.{Answer}
 use Rattle.state.specs.Answer.{done, refused}
-use Rattle.state.specs.Bits.{timexOn}
+use Rattle.state_bits.specs.Bits.{timexOn}
 use Rattle.register_bounds.specs.Bounds.{isChoice, selectFits}
 use Rattle.state.specs.Lawful.{lawfulState}
 use Rattle.state.specs.Typed.{Typed}

@@ -9,7 +9,7 @@ use Rattle.register_bounds.specs.Bounds.{ulaYFits, isMask, isChoice, tileTransp
 use Rattle.state.specs.declared.State.{State}
 use Rattle.state.specs.declared.Answer.{Answer}
 use Rattle.state.specs.Answer.{done, refused}
-use Rattle.state.specs.Bits.{timexOn}
+use Rattle.state_bits.specs.Bits.{timexOn}
 use Rattle.state.specs.Lawful.{lawfulState}
 use Rattle.state.specs.Typed.{Typed}
 use Rattle.state.specs.Groups.{paletteWithIndex, paletteWithHalf, paletteWithoutHalf, portsWithBorder, portsWithTimex, portsWithSelect}

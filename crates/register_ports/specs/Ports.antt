@@ -8,7 +8,7 @@ use Rattle.reply.specs.declared.Reply.the-variants.{NoRegister}
 use Rattle.state.specs.declared.State.{State}
 use Rattle.state.specs.declared.Answer.{Answer}
 use Rattle.state.specs.Answer.{done}
-use Rattle.state.specs.Bits.{timexOn}
+use Rattle.state_bits.specs.Bits.{timexOn}
 use Rattle.register_bounds.specs.Bounds.{selectFits}
 use Rattle.state.specs.Groups.{portsWithBorder, portsWithTimex, portsWithSelect, portsWithPlus}
 use Rattle.state.specs.With.{withPorts, withPlus}

@@ -11,7 +11,7 @@ use register_answers::no_write;
 use register_bounds::select_fits;
 use state::Answer;
 use state::State;
-use state::timex_on;
+use state_bits::timex_on;
 
 // $FE
 fn write_border(s: State, value: u8) -> Answer

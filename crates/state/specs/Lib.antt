@@ -1,4 +1,3 @@
-pub mod Bits
 pub mod Lawful
 pub mod Typed
 pub mod Answer

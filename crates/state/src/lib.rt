@@ -1,22 +1,7 @@
-// A member's whole video state by value: its registers, what their bits mean, what is lawful, and reset.
-mod bits;
+// A member's whole video state by value: its registers, what is lawful, and reset.
 mod bounds;
 mod initial;
 
-pub use bits::columns_of;
-pub use bits::columns80;
-pub use bits::index_stays;
-pub use bits::lores_on;
-pub use bits::next_on;
-pub use bits::one_byte_entries;
-pub use bits::stencil_set;
-pub use bits::tile_second_shown;
-pub use bits::tilemap_on;
-pub use bits::timex_on;
-pub use bits::ula_on;
-pub use bits::ula_second_shown;
-pub use bits::width_of;
-pub use bits::x_offset;
 pub use bounds::lawful;
 pub use bounds::lawful_registers;
 pub use initial::reset;

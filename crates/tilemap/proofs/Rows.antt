@@ -12,7 +12,7 @@ use Rattle.lists.specs.Tab.{tab}
 use Rattle.lists.proofs.Tab.{tab-none, tab-step, tab-done, tab-ext, tab-join, length-tab, getD-tab}
 use Rattle.tilemap_entries.specs.declared.entries.TileSetup.{TileSetup}
 use Rattle.tilemap_entries.specs.declared.entries.Entry.{Entry}
-use Rattle.state.specs.Bits.{columnsOf, widthOf}
+use Rattle.state_bits.specs.Bits.{columnsOf, widthOf}
 use Rattle.tilemap_entries.specs.Entries.{tyOf, cellOf, entryAt, tileNumber, tileEntry}
 use Rattle.tilemap_turns.specs.Turns.{turnOf, mirrored, bOf, columnOf, rowOf}
 use Rattle.tilemap_rule.specs.Index.{pixelAt, entryPixel, tileIndex}

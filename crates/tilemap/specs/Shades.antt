@@ -5,7 +5,7 @@ use mathlib.Core.List.{List}
 use lib.ListN.{getD}
 use Rattle.lists.specs.Tab.{tab}
 use Rattle.tilemap_entries.specs.declared.entries.TileSetup.{TileSetup}
-use Rattle.state.specs.Bits.{columnsOf, widthOf}
+use Rattle.state_bits.specs.Bits.{columnsOf, widthOf}
 use Rattle.tilemap_entries.specs.Entries.{tyOf, cellOf, entryAt}
 use Rattle.tilemap_rule.specs.Index.{entryPixel}
 

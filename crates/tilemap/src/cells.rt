@@ -4,7 +4,7 @@ ghost use mathlib.Core.List.{_++_};
 ghost use Prim.Native.Nat.{ℕ, _+_, _*_, _/_, _%_, _≤_, _<_};
 ghost use lib.ListN.{length, drop};
 ghost use Rattle.lists.specs.Tab.{tab};
-ghost use Rattle.state.specs.Bits.{columnsOf, widthOf};
+ghost use Rattle.state_bits.specs.Bits.{columnsOf, widthOf};
 ghost use Rattle.tilemap_turns.specs.Turns.{mirrored};
 ghost use Rattle.tilemap_rule.specs.Index.{pixelAt, entryPixel};
 ghost use Rattle.tilemap.specs.Shades.{shadeFrom, shadeOf, shadeAt, rowLength, tileRow};

@@ -2,7 +2,7 @@
 use Prim.Native.Nat.{ℕ, _+_, _*_, _/_, _%_, _≤_, _<_}
 use mathlib.Core.Path.{_≡_}
 use mathlib.Core.Bool.{Bool, true, false}
-use Rattle.state.specs.Bits.{columnsOf, widthOf}
+use Rattle.state_bits.specs.Bits.{columnsOf, widthOf}
 use Rattle.tilemap_entries.specs.declared.entries.TileSetup.{TileSetup}
 use Rattle.tilemap_entries.specs.Entries.{cellOf, entryAddress}
 

@@ -4,7 +4,7 @@ use mathlib.Core.List.{List}
 use mathlib.Core.Bool.{Bool, cond}
 use lib.ListN.{getD}
 use lib.Dec.{eqb}
-use Rattle.state.specs.Bits.{columnsOf, widthOf}
+use Rattle.state_bits.specs.Bits.{columnsOf, widthOf}
 use Rattle.tilemap_entries.specs.declared.entries.TileSetup.{TileSetup}
 use Rattle.tilemap_entries.specs.declared.entries.Entry.{Entry}
 

@@ -2,7 +2,7 @@
 ghost use mathlib.Core.Path.{_≡_};
 ghost use Prim.Native.Nat.{_+_, _%_, _<_};
 ghost use lib.ListN.{length};
-ghost use Rattle.state.specs.Bits.{widthOf};
+ghost use Rattle.state_bits.specs.Bits.{widthOf};
 ghost use Rattle.tilemap_entries.specs.Entries.{tyOf, cellOf, fetched, entryAddress, highOf, entryAt, tileNumber};
 ghost use Rattle.tilemap_entries.specs.Bounds.{SetupBounds, EntryBounds};
 use lists::usize_of;

@@ -6,7 +6,7 @@ use lib.ListN.{getD}
 use Rattle.surface.specs.Dots.{inside}
 use Rattle.surface.specs.declared.lines.LineNumber.{LineNumber}
 use Rattle.state.specs.declared.Tiles.{Tiles}
-use Rattle.state.specs.Bits.{tilemapOn, columns80, oneByteEntries, xOffset}
+use Rattle.state_bits.specs.Bits.{tilemapOn, columns80, oneByteEntries, xOffset}
 use Rattle.tilemap_entries.specs.declared.entries.TileSetup.{TileSetup}
 use Rattle.tilemap_setup.specs.declared.setup.PairCount.{PairCount}
 use Rattle.tilemap_setup.specs.declared.setup.Window.{Window}

@@ -31,7 +31,7 @@ pub fn window_of(t: Tiles, clip: &[u8; 4], l: LineNumber) -> Window
     let right = first_pixel(PairCount(clip[1])) + 1;
     let top = usize_of(clip[2]);
     let bottom = usize_of(clip[3]);
-    let on = state::tilemap_on(t);
+    let on = state_bits::tilemap_on(t);
     let shown = surface::is_inside(l.0, top, bottom);
     Window {
         on: on & shown,
@@ -53,12 +53,12 @@ pub fn setup_of(t: Tiles, on: bool) -> TileSetup
     requires { ⌜ (t .xhigh ≤ 3) × (t .map < 64) × (t .definitions < 64) ⌝ }
     ensures { λ r. ⌜ (r ≡ setupOf t on) × (SetupBounds r) ⌝ }
 {
-    let columns80 = state::columns80(t);
-    let single = state::one_byte_entries(t);
+    let columns80 = state_bits::columns80(t);
+    let single = state_bits::one_byte_entries(t);
     let attribute = usize_of(t.attribute);
     let map = address_of(t.map);
     let definitions = address_of(t.definitions);
-    let x = state::x_offset(t);
+    let x = state_bits::x_offset(t);
     let y = usize_of(t.y);
     TileSetup {
         columns80,

@@ -4,7 +4,7 @@ use mathlib.Core.Path.{_≡_, refl, sym, ap, _∙_}
 use mathlib.Core.List.{List}
 use mathlib.Core.Bool.{Bool, true, false, cond}
 use Rattle.lists.specs.Tab.{tab}
-use Rattle.state.specs.Bits.{ulaSecondShown}
+use Rattle.state_bits.specs.Bits.{ulaSecondShown}
 use Rattle.state.specs.declared.State.{State}
 use Rattle.state.specs.declared.Ula.{Ula}
 use Rattle.state.specs.declared.Palette.{Palette}

@@ -2,7 +2,7 @@
 use Prim.Native.Nat.{ℕ, _%_}
 use mathlib.Core.Bool.{Bool, true, false, cond}
 use lib.Dec.{eqb}
-use Rattle.state.specs.Bits.{loresOn, timexOn}
+use Rattle.state_bits.specs.Bits.{loresOn, timexOn}
 use Rattle.state.specs.declared.Ula.{Ula}
 use Rattle.state.specs.declared.Ports.{Ports}
 use Rattle.ula_mode.specs.declared.modes.Mode.{Mode}

@@ -33,10 +33,10 @@ fn timex_mode(port: u8) -> Mode
 pub fn mode_of(u: Ula, ports: Ports) -> Mode
     ensures { λ r. ⌜ r ≡ modeOf u ports ⌝ }
 {
-    if state::lores_on(u) {
+    if state_bits::lores_on(u) {
         return Mode::Lores;
     }
-    if state::timex_on(u) {
+    if state_bits::timex_on(u) {
         timex_mode(ports.timex)
     } else {
         Mode::Standard

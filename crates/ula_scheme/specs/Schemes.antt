@@ -3,7 +3,7 @@ use Prim.Native.Nat.{ℕ, _/_, _%_}
 use mathlib.Core.Bool.{cond}
 use lib.Dec.{eqb}
 use Rattle.colour.specs.Bytes.{widened}
-use Rattle.state.specs.Bits.{nextOn}
+use Rattle.state_bits.specs.Bits.{nextOn}
 use Rattle.state.specs.declared.Ula.{Ula}
 use Rattle.state.specs.declared.Palette.{Palette}
 use Rattle.state.specs.declared.Ports.{Ports}

@@ -29,7 +29,7 @@ pub struct Colours {
 fn scheme_of(p: Palette, ports: Ports) -> Scheme
     ensures { λ r. ⌜ r ≡ schemeOf p ports ⌝ }
 {
-    if state::next_on(p) {
+    if state_bits::next_on(p) {
         return Scheme::Next;
     }
     if ports.plus {

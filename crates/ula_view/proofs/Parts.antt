@@ -3,7 +3,7 @@ use Prim.Native.Nat.{ℕ}
 use mathlib.Core.Path.{_≡_}
 use mathlib.Core.List.{List}
 use mathlib.Core.Bool.{Bool}
-use Rattle.state.specs.Bits.{ulaOn}
+use Rattle.state_bits.specs.Bits.{ulaOn}
 use Rattle.state.specs.declared.State.{State}
 use Rattle.surface.specs.Lines.{inDisplay, displayLine}
 use Rattle.surface.specs.declared.lines.LineNumber.{LineNumber}

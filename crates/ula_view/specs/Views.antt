@@ -3,7 +3,7 @@ use Prim.Native.Nat.{ℕ}
 use mathlib.Core.List.{List}
 use mathlib.Core.Bool.{cond}
 use lib.ListN.{getD}
-use Rattle.state.specs.Bits.{ulaOn, ulaSecondShown}
+use Rattle.state_bits.specs.Bits.{ulaOn, ulaSecondShown}
 use Rattle.state.specs.declared.State.{State}
 use Rattle.state.specs.declared.Ula.{Ula}
 use Rattle.state.specs.declared.Ports.{Ports}

@@ -2,7 +2,7 @@
 ghost use mathlib.Core.Path.{_≡_};
 ghost use mathlib.Core.Bool.{true, cond};
 ghost use Prim.Native.Nat.{_<_, _≤_};
-ghost use Rattle.state.specs.Bits.{ulaSecondShown};
+ghost use Rattle.state_bits.specs.Bits.{ulaSecondShown};
 ghost use Rattle.register_bounds.specs.Bounds.{isMask};
 ghost use Rattle.surface.specs.Lines.{isLine};
 ghost use Rattle.ula_view.specs.Views.{viewOf, borderOf, ulaLine};
@@ -41,7 +41,7 @@ pub struct UlaLine {
 pub fn ula_palette<'a>(p: Palette, first: &'a [u16; 256], second: &'a [u16; 256]) -> &'a [u16; 256]
     ensures { λ r. ⌜ now r ≡ cond (ulaSecondShown p) (now (second .entry)) (now (first .entry)) ⌝ }
 {
-    if state::ula_second_shown(p) {
+    if state_bits::ula_second_shown(p) {
         second
     } else {
         first
@@ -100,7 +100,7 @@ pub fn ula_line(
     let view = view_of(u, ports, clip, surface::display_line(line));
     let colours = ula_scheme::colours_of(u, p, ports, frame);
     let border = border_of(view, colours, pal, plus, ports.border);
-    let on = state::ula_on(u);
+    let on = state_bits::ula_on(u);
     let display = surface::in_display(line);
     UlaLine {
         on,

@@ -1,7 +1,7 @@
 -- The loop of `tile_row`: the shades below j are right, and what lies after them is as it was.
 use Rattle.tilemap.proofs.Rows.{row-none, row-part, row-done}
 use Rattle.tilemap.specs.Shades.{shadeAt, rowLength}
-use Rattle.state.specs.Bits.{widthOf}
+use Rattle.state_bits.specs.Bits.{widthOf}
 use Rattle.lists.specs.Tab.{tab}
 use lib.ListN.{length, drop}
 use mathlib.Core.List.{_++_}

@@ -1,11 +1,11 @@
 // What single bits of the registers mean.
 ghost use mathlib.Core.Path.{_≡_};
 ghost use Prim.Native.Nat.{_+_, _*_, _<_, _≤_};
-ghost use Rattle.state.specs.Bits.{timexOn, loresOn, nextOn, ulaSecondShown, ulaOn, stencilSet, tilemapOn, columns80, oneByteEntries, tileSecondShown, columnsOf, widthOf, xOffset, indexStays};
-use crate::Palette;
-use crate::Tiles;
-use crate::Ula;
+ghost use Rattle.state_bits.specs.Bits.{timexOn, loresOn, nextOn, ulaSecondShown, ulaOn, stencilSet, tilemapOn, columns80, oneByteEntries, tileSecondShown, columnsOf, widthOf, xOffset, indexStays};
 use lists::usize_of;
+use state::Palette;
+use state::Tiles;
+use state::Ula;
 
 pub fn timex_on(u: Ula) -> bool
     ensures { λ r. ⌜ r ≡ timexOn u ⌝ }
