@@ -1,14 +1,14 @@
 -- The eight turns: one after another is a turn, and any turn is any other after some turn, by one test each that is computed
--- over the flag set; and none leaves the tile.
+-- over the flag set; and none leaves the tile, as the claim on turns has it.
 use mathlib.Core.Path.{_≡_, refl}
-use mathlib.Core.Bool.{Bool, true, false, cond, not}
-use Prim.Native.Nat.{ℕ, _/_, _%_, _<_}
-use native.Mathlib.Omega.{arith}
+use mathlib.Core.Bool.{Bool, true, false, cond}
+use Prim.Native.Nat.{ℕ, _<_}
 use lib.Dec.{eqb}
 use borrow.Author.Tests.{eqb-true}
 use Rattle.lists.specs.Search.{least, some, all}
 use Rattle.lists.proofs.Search.{all-at, some-at, and-left, and-right}
-use Rattle.tilemap_turns.specs.Turns.{columnOf, rowOf, mirrored}
+use Rattle.tilemap_turns.specs.Turns.{columnOf, rowOf}
+use Rattle.tilemap_turns.proofs.Claims.{turnsInside}
 use Rattle.pack_classes.specs.Claims.{After}
 
 -- at (x, y), t after u is s
@@ -47,19 +47,9 @@ divided t u h k =
     let w = some-at (λ s. after t s u) 8 (all-at (λ u. some (λ s. after t s u) 8) 8 (all-at (λ t. all (λ u. some (λ s. after t s u) 8) 8) 8 divided-test t h) u k) in
     (w .0, w .1, after-is t (w .0) u (w .2))
 
-pub mirrored-small : (b : Bool) (v : ℕ) → v < 8 → mirrored b v < 8
-mirrored-small true v h = omega arith
-mirrored-small false v h = h
-
-cond-small : (b : Bool) (u v : ℕ) → u < 8 → v < 8 → cond b u v < 8
-cond-small true u v h k = h
-cond-small false u v h k = k
-
 -- a turn stays within the tile
 pub column-small : (t x y : ℕ) → x < 8 → y < 8 → columnOf t x y < 8
-unfolding columnOf
-column-small t x y h k = cond-small (eqb (t % 2) 1) _ _ (mirrored-small (eqb (t / 2 % 2) 1) y k) (mirrored-small (not (eqb (t / 4 % 2) (t % 2))) x h)
+column-small t x y h k = turnsInside t x y h k .0
 
 pub row-small : (t x y : ℕ) → x < 8 → y < 8 → rowOf t x y < 8
-unfolding rowOf
-row-small t x y h k = cond-small (eqb (t % 2) 1) _ _ (mirrored-small (not (eqb (t / 4 % 2) (t % 2))) x h) (mirrored-small (eqb (t / 2 % 2) 1) y k)
+row-small t x y h k = turnsInside t x y h k .1

@@ -16,7 +16,7 @@ use Rattle.tilemap_turns.specs.Turns.{columnOf, rowOf, mirrored}
 use Rattle.pack_classes.specs.Picture.{pixelIn}
 use Rattle.pack_classes.specs.Turned.{turnedRow, turnedInto}
 use Rattle.pack_turns.specs.Rows.{transposeOf, inRow, Row, rowSame, rowsSame}
-use Rattle.pack_classes.proofs.Group.{mirrored-small}
+use Rattle.tilemap_turns.proofs.Claims.{mirror-inside}
 use Rattle.pack_classes.proofs.Cells.{bool-same}
 
 -- what holds at each of eight numbers
@@ -99,4 +99,4 @@ turned-rows from cell t r e =
     go true down back =
         all-same _ _ 8
         (λ y k. all-same _ _ 8
-        (λ x l. ap (eqb (pixelIn cell x y)) (transpose-at from (mirrored back x) (mirrored down y) (mirrored-small back x l) (mirrored-small down y k))))
+        (λ x l. ap (eqb (pixelIn cell x y)) (transpose-at from (mirrored back x) (mirrored down y) (mirror-inside back x l) (mirror-inside down y k))))

@@ -1,9 +1,9 @@
 -- A reply is done exactly where its number is 0, since the number tells the reply.
 use Prim.Native.Nat.{ℕ}
-use mathlib.Core.Path.{_≡_, refl, ap}
+use mathlib.Core.Path.{_≡_, refl, sym, ap, _∙_}
 use mathlib.Core.Bool.{Bool, true, false, cond}
 use native.Mathlib.Omega.{arith}
-use borrow.Author.Tests.{eqb-true}
+use borrow.Author.Tests.{eqb-true, eq-eqb, ne-eqb}
 use Rattle.reply.specs.Reply.{replyNumber, isDone}
 use Rattle.reply.specs.declared.Reply.{Reply}
 use Rattle.reply.specs.declared.Reply.the-variants.{Done}
@@ -17,6 +17,13 @@ done-number r e = ap replyNumber e
 
 pub is-done : (r : Reply) → isDone r ≡ true → r ≡ Done
 is-done r e = number-done r (eqb-true (replyNumber r) 0 e)
+
+-- a number that is 0, or is not, tells whether its reply is done
+pub done-is : (n : ℕ) (r : Reply) → n ≡ replyNumber r → n ≡ 0 → isDone r ≡ true
+done-is n r e z = eq-eqb _ _ (sym e ∙ z)
+
+pub not-done : (n : ℕ) (r : Reply) → n ≡ replyNumber r → (n ≡ 0 → ⊥) → isDone r ≡ false
+not-done n r e z = ne-eqb _ _ (λ q. z (e ∙ q))
 
 -- what refuses is not done
 pub refused : (r : Reply) → isDone r ≡ false → r ≡ Done → ⊥

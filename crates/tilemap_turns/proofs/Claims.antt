@@ -8,7 +8,7 @@ use lib.Dec.{eqb}
 use Rattle.tilemap_turns.specs.Turns.{mirrored, columnOf, rowOf}
 use Rattle.tilemap_turns.specs.Claims.{TurnsInside, ShownOnce}
 
-mirror-inside : (b : Bool) (v : ℕ) → v < 8 → mirrored b v < 8
+pub mirror-inside : (b : Bool) (v : ℕ) → v < 8 → mirrored b v < 8
 mirror-inside true v h = omega arith
 mirror-inside false v h = h
 

@@ -1,6 +1,6 @@
 -- The record of an answer that is done is put, and the lent one stays after any other.
 use mathlib.Core.Path.{_∙_}
-use Rattle.lent_drawing.proofs.Done.{done-is, not-done}
+use Rattle.reply.proofs.Done.{done-is, not-done}
 use Rattle.lent.proofs.Exits.{stored, left}
 use borrow.Author.Needs.{needs}
 use Rattle.lent.proofs.changes.store.Statement.{statement}

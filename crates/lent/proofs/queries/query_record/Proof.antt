@@ -1,6 +1,6 @@
 -- What the state in the record answers, or the refusal of the record.
 use Rattle.lent.specs.Calls.{asked}
-use Rattle.lent_drawing.proofs.Done.{done-is, not-done}
+use Rattle.reply.proofs.Done.{done-is, not-done}
 use Rattle.lent.proofs.Exits.{told, untold}
 use borrow.Author.Needs.{needs}
 use Rattle.lent.proofs.queries.query_record.Statement.{statement}

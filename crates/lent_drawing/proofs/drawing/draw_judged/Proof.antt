@@ -2,7 +2,7 @@
 use mathlib.Core.Path.{refl}
 use Rattle.line_replies.proofs.Exits.{drawn, left}
 use Rattle.lent_drawing.proofs.Drawn.{state-reply-read}
-use Rattle.lent_drawing.proofs.Done.{done-is, not-done}
+use Rattle.reply.proofs.Done.{done-is, not-done}
 use borrow.Author.Needs.{needs}
 use Rattle.lent_drawing.proofs.drawing.draw_judged.Statement.{statement}
 use Rattle.lent_drawing.proofs.drawing.draw_judged.Tie as tie

@@ -1,7 +1,7 @@
 -- The drawing of the state in the record, or refused early (Drawn).
 use mathlib.Core.Path.{sym, _∙_}
 use Rattle.reply.proofs.Done.{number-done}
-use Rattle.lent_drawing.proofs.Done.{not-done}
+use Rattle.reply.proofs.Done.{not-done}
 use Rattle.lent_drawing.proofs.Drawn.{met, drawn-judged, undrawn}
 use borrow.Author.Needs.{needs}
 use Rattle.lent_drawing.proofs.drawing.draw_record.Statement.{statement}
