@@ -1,4 +1,4 @@
--- $41 and ULAplus: nine-bit colours RRRGGGBBB from bytes.
+-- Rules 3.11 and 4.20: nine-bit colours from bytes, those of $41 and those of ULAplus.
 use Prim.Native.Nat.{ℕ, _+_, _*_, _/_, _%_}
 use mathlib.Core.Bool.{cond}
 use lib.Dec.{eqb}

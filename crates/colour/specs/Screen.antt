@@ -1,4 +1,4 @@
--- Screen values.
+-- Rules 6.1, 6.2, 9.10, 10.8 and 12.3: the screen value of a colour.
 use Prim.Native.Nat.{ℕ, _+_, _*_, _/_, _%_}
 use mathlib.Core.Bool.{cond}
 use lib.Dec.{leb}

@@ -1,4 +1,4 @@
--- What no single call states of frames.
+-- Rules 3.30 and 3.31 together: what no single call states of frames.
 use Prim.Native.Nat.{_<_}
 use mathlib.Core.Path.{_≡_}
 use mathlib.Core.Bool.{true}

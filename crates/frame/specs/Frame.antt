@@ -1,4 +1,4 @@
--- The state and its registers: "The next frame adds one, from 255 to 0."
+-- Rules 3.30, 9.4, 10.4 and 12.4: the next frame.
 use Prim.Native.Nat.{ℕ, zero, suc, _+_, _%_}
 use mathlib.Core.Bool.{cond}
 use Rattle.reply.specs.declared.Reply.the-variants.{NotLawful}

@@ -1,4 +1,4 @@
--- A state lent as its record: 13 stands in the place of 4, and a refusal changes no lent byte.
+-- Rules 9.13 and 10.9 for a state lent as its record: 13 stands in the place of 4, and a refusal changes no lent byte.
 use mathlib.Core.List.{List}
 use mathlib.Core.Bool.{cond}
 use Prim.Native.Nat.{ℕ}

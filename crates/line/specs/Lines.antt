@@ -1,4 +1,4 @@
--- What is drawn: a line as 640 dots, from the two banks and the state.
+-- Rules 1.3, 2.2, 2.3, 2.5, 5.8 and 5.13: a line as 640 dots, from the two banks and the state.
 use Prim.Native.Nat.{ℕ}
 use mathlib.Core.List.{List}
 use mathlib.Core.Bool.{cond}

@@ -1,4 +1,4 @@
--- What is drawn: what a line shows of a state. Besides the two palettes shown it is a few bytes, so that a line can be drawn where no
+-- Rule 2.5: what a line shows of a state. Besides the two palettes shown it is a few bytes, so that a line can be drawn where no
 -- whole state is at hand.
 use Prim.Native.Nat.{ℕ, _≤_, _<_}
 use mathlib.Core.Path.{_≡_}

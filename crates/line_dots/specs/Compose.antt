@@ -1,4 +1,4 @@
--- Tilemap dots, "Composed". A dot is a colour, or 512 where transparent.
+-- Rules 5.8 and 5.11 to 5.13: both layers composed. A dot is a colour, or 512 where transparent.
 use Prim.Native.Nat.{ℕ}
 use mathlib.Core.List.{List}
 use mathlib.Core.Bool.{Bool, false, cond, _&&_, _||_}

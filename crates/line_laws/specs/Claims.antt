@@ -1,4 +1,4 @@
--- What no single call states of a drawn line. A statement here is proved by the law of its name in proofs/Claims.antt.
+-- Rule 2.3: what no single call states of a drawn line. A statement here is proved by the law of its name in proofs/Claims.antt.
 use Prim.Native.Nat.{ℕ, _≤_}
 use mathlib.Core.Path.{_≡_}
 use mathlib.Core.List.{List}

@@ -1,4 +1,4 @@
--- Reply numbers: what a drawing is refused for, and "Drawing: 1, 2, 3, 4, 6, 7, 5, 8."
+-- Rules 1.2, 2.5, 9.1 to 9.8, 10.1 and 10.9: what a drawing is refused for, and in which order.
 use Prim.Native.Nat.{ℕ}
 use mathlib.Core.List.{List, [], _∷_}
 use mathlib.Core.Bool.{Bool, cond, _&&_}

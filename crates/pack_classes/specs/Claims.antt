@@ -1,4 +1,4 @@
--- The eight turns, by the tilemap's rule.
+-- Rule 13.4: the eight turns, by the tilemap's rule.
 use Prim.Native.Nat.{ℕ, _<_}
 use mathlib.Core.Path.{_≡_}
 use Rattle.tilemap_turns.specs.Turns.{columnOf, rowOf}

@@ -1,4 +1,4 @@
--- A number that a cell keeps when it is turned, by which most comparisons are skipped. The paper does not speak of it.
+-- A number that a cell keeps when it is turned, by which most comparisons are skipped. No rule speaks of it.
 use Prim.Native.Nat.{ℕ, zero, suc, _+_, _-_, _*_, _/_, _%_}
 use mathlib.Core.List.{List}
 use mathlib.Core.Bool.{cond}

@@ -1,4 +1,4 @@
--- Packing: the picture and its cells.
+-- Rules 8.1 and 8.2: the picture and its cells.
 use Prim.Native.Nat.{ℕ, _+_, _*_, _/_, _%_}
 use mathlib.Core.List.{List}
 use lib.ListN.{getD}

@@ -1,4 +1,4 @@
--- Packing: which cells can be turned into each other, by the tilemap's turns.
+-- Rules 8.2 and 8.3: which cells can be turned into each other, by the tilemap's turns.
 use Prim.Native.Nat.{ℕ}
 use mathlib.Core.List.{List}
 use mathlib.Core.Bool.{Bool}

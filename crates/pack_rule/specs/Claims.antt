@@ -1,4 +1,5 @@
--- Demand 3 over the definitions, what an entry and a definition of the packing are, what later sheets can cite, and what a map names.
+-- Rule 1.8: demand 3 over the definitions; what an entry and a definition of the packing are, what later sheets can cite, and what a map
+-- names.
 use mathlib.Core.Path.{_≡_}
 use mathlib.Core.List.{List}
 use mathlib.Core.Logic.{_⊎_}

@@ -1,4 +1,4 @@
--- Packing: the accepted packing of a picture.
+-- Rules 1.6 and 8.1 to 8.5: the accepted packing of a picture.
 use mathlib.Core.List.{List, [], _∷_, _++_}
 use mathlib.Core.Bool.{cond}
 use Prim.Native.Nat.{ℕ, zero, suc, _+_, _*_, _/_, _%_}

@@ -1,4 +1,4 @@
--- Packing: a map of 2,560 bytes and 256 definitions, whoever made them, and what it is for them to draw a picture.
+-- Rules 1.6 and 8.5 to 8.7: a map and 256 definitions, whoever made them, what they name, and what it is for them to draw a picture.
 use mathlib.Core.Path.{_≡_}
 use mathlib.Core.List.{List}
 use mathlib.Core.Logic.{_⊎_}
@@ -48,7 +48,7 @@ pub record SetIn (map defs bank : List ℕ) (mapBase defBase : ℕ) : Type 0 whe
   pub map-there : take 2560 (drop mapBase bank) ≡ map
   pub defs-there : take 8192 (drop defBase bank) ≡ defs
 
--- the rules of "Tilemap dots" give index palette offset × 16 + pixel at each of the 81,920 pixels
+-- the tilemap's rule gives the index palette offset × 16 + pixel at each of the 81,920 pixels
 abbrev pub DrawsIn : List ℕ → ℕ → List ℕ → TileSetup → Type 0
 DrawsIn pic offset bank t = (x y : ℕ) → x < 320 → y < 256 → tileIndex t bank x y ≡ offset * 16 + pixelOf pic x y
 

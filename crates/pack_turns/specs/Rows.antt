@@ -1,5 +1,5 @@
 -- How two cells are compared: row by row, a row of eight pixels as one number; and a cell with its rows and columns exchanged,
--- in which a rotated turn too goes row by row. The paper does not speak of these.
+-- in which a rotated turn too goes row by row. No rule speaks of these.
 use mathlib.Core.Path.{_≡_}
 use Prim.Native.Nat.{ℕ, _+_, _*_, _/_, _%_, _<_}
 use mathlib.Core.List.{List}

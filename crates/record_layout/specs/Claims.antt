@@ -1,4 +1,5 @@
--- What holds of writing and reading together. `Typed` and `Bytes` are what the types of a call's arguments give.
+-- Rules 1.4, 1.5, 7.4 and 7.5: what holds of writing and reading together. `Typed` and `Bytes` are what the types of a call's arguments
+-- give.
 use mathlib.Core.Path.{_≡_}
 use mathlib.Core.Logic.{_↔_}
 use mathlib.Core.List.{List}

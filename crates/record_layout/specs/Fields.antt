@@ -1,4 +1,4 @@
--- The stored record: its fields are bytes, or pairs of bytes with the high one first.
+-- Rule 7.3: a record's fields are bytes, or pairs of bytes with the high one first.
 use Prim.Native.Nat.{ℕ, _+_, _*_, _/_, _%_}
 use mathlib.Core.List.{List, [], _∷_, _++_}
 use mathlib.Core.Bool.{Bool, cond}

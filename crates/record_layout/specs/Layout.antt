@@ -1,4 +1,4 @@
--- The stored record: its parts in the paper's order, each with its bound of "The state and its registers".
+-- Rules 7.2 and 7.3: a record's parts in their order, each with its bound of section 3.
 use Prim.Native.Nat.{ℕ}
 use mathlib.Core.List.{List, [], _∷_}
 use mathlib.Core.Bool.{Bool, true}
@@ -33,7 +33,7 @@ bytes n field = row byte n (λ v. true) field
 abbrev pub palette : (State → List ℕ) → Part
 palette field = row pair 256 colourFits field
 
--- "Then $14, $15, $08, .."
+-- the parts in their order
 abbrev pub layout : Version → List Part
 layout version1 =
     -- $14

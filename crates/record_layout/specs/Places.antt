@@ -1,4 +1,4 @@
--- The stored record: the places of its parts, counted from the front, by name. `PlacesAreSums` ties them to the layout.
+-- Rule 7.2: the places of a record's parts, counted from the front, by name. `PlacesAreSums` ties them to the layout.
 use Prim.Native.Nat.{ℕ}
 use mathlib.Core.List.{List, [], _∷_}
 

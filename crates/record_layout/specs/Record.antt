@@ -1,4 +1,5 @@
--- The stored record: "Two bytes, high first: 2,148, the number of bytes following. Version 1. Then" the parts.
+-- Rules 7.1, 7.4 to 7.6, 9.3, 9.4, 9.13, 10.6, 10.7 and 10.9: a record, from its head on, what reading one accepts, and what writing one
+-- answers.
 use Prim.Native.Nat.{ℕ, _+_}
 use mathlib.Core.List.{List, _∷_, _++_}
 use mathlib.Core.Bool.{Bool, cond, _&&_}
@@ -26,7 +27,7 @@ following v = 1 + sizes (layout v)
 abbrev pub recordIn : Version → State → List ℕ
 recordIn v s = fieldBytes pair (following v) ++ (versionNumber v ∷ bytesOf (layout v) s)
 
--- "2,150 bytes in all": the length of a lent record
+-- the length of a lent record
 abbrev pub recordLength : ℕ
 recordLength = 2150
 

@@ -1,4 +1,4 @@
--- The stored record: its versions.
+-- Rule 7.1: the versions of a record.
 use Prim.Native.Nat.{ℕ}
 
 pub data Version : Type 0 where

@@ -1,4 +1,4 @@
--- Tables of registers or ports: a row for each number, with what writing it or reading it does.
+-- Rule 9.9: tables of registers or ports, a row for each number, with what writing it or reading it does.
 use Prim.Native.Nat.{ℕ}
 use mathlib.Core.List.{List, [], _∷_}
 use mathlib.Core.Bool.{cond}

@@ -1,4 +1,5 @@
--- The state and its registers: the bound of each register, once. A lawful state, a write and a stored record all go by these.
+-- Rules 3.6, 3.16, 3.17, 3.19 to 3.21, 3.23, 3.24, 3.27 and 3.31: the bound of each register, once. A lawful state, a write and a stored
+-- record all go by these.
 use Prim.Native.Nat.{ℕ, _/_, _%_}
 use mathlib.Core.Bool.{Bool, _||_}
 use lib.Dec.{leb, ltb, eqb}

@@ -1,4 +1,4 @@
--- The state and its registers: the two clips and their turns.
+-- Rules 3.7 to 3.9: the two clips and their turns.
 use Prim.Native.Nat.{ℕ, _+_, _*_, _/_, _%_}
 use mathlib.Core.Bool.{cond}
 use mathlib.Core.List.{List}

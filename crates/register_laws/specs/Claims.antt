@@ -1,4 +1,5 @@
--- What writes and reads do together. A statement here is proved by the law of its name in proofs/Claims.antt.
+-- Rules 3.7 to 3.17 and 3.24 to 3.29, with the replies of 10.2 and 10.3: what writes and reads do together. A statement here is
+-- proved by the law of its name in proofs/Claims.antt.
 use Prim.Native.Nat.{ℕ, _+_, _*_, _/_, _%_, _≤_, _<_}
 use mathlib.Core.Path.{_≡_}
 use mathlib.Core.List.{List, [], _∷_}

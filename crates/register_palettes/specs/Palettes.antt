@@ -1,4 +1,4 @@
--- The state and its registers: $40 to $44, by which the four palettes are written and read.
+-- Rules 3.10 to 3.12 and 3.14 to 3.17: $40 to $44, by which the four palettes are written and read.
 use Prim.Native.Nat.{ℕ, _+_, _*_, _/_, _%_}
 use mathlib.Core.Bool.{cond}
 use lib.Dec.{leb}

@@ -1,4 +1,4 @@
--- The state and its registers: "Ports".
+-- Rules 3.25 to 3.28: the four ports.
 use Prim.Native.Nat.{ℕ, _%_}
 use mathlib.Core.List.{List, [], _∷_}
 use mathlib.Core.Bool.{Bool, cond}

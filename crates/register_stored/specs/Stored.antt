@@ -1,4 +1,4 @@
--- The state and its registers: what a write does to each register that is stored, in the order of their numbers.
+-- Rules 3.4, 3.18 and 3.22 to 3.24: what a write does to each register that is stored, in the order of their numbers.
 use Prim.Native.Nat.{ℕ, _%_}
 use Rattle.state.specs.declared.State.{State}
 use Rattle.state.specs.declared.Answer.{Answer}

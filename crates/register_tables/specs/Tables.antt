@@ -1,5 +1,5 @@
--- The state and its registers: the list of registers. What each row does stands in the definitions of `register_stored`,
--- `register_clips` and `register_palettes`.
+-- Rules 3.29 and 12.2: the list of registers. What each row does stands in the definitions of `register_stored`, `register_clips` and
+-- `register_palettes`.
 use mathlib.Core.List.{List, [], _∷_}
 use Rattle.register_answers.specs.Answers.{given}
 use Rattle.register_answers.specs.Rows.{WriteRow, writes, ReadRow, reads}

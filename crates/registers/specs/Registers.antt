@@ -1,4 +1,4 @@
--- The state and its registers: writing and reading by register number and by port. The tables are those of `register_tables` and
+-- Rules 1.3, 10.2 and 10.3: writing and reading by register number and by port. The tables are those of `register_tables` and
 -- `register_ports`.
 use Prim.Native.Nat.{ℕ}
 use Rattle.state.specs.declared.State.{State}

@@ -1,4 +1,4 @@
--- What no single call states of replies.
+-- Rule 12.6: what no single call states of replies.
 use mathlib.Core.Path.{_≡_}
 use Rattle.reply.specs.Reply.{replyNumber}
 use Rattle.reply.specs.declared.Reply.{Reply}

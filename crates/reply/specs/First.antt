@@ -1,4 +1,4 @@
--- Reply numbers: where several apply, the first of its call's order is the answer.
+-- Rule 10.0: where several replies apply, the first of the call's order is the answer.
 use mathlib.Core.List.{List, [], _∷_}
 use mathlib.Core.Bool.{cond}
 use Rattle.reply.specs.Reply.{isDone}

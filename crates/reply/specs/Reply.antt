@@ -1,4 +1,4 @@
--- Reply numbers.
+-- Rules 9.0 and 12.6: the number of each reply.
 use Prim.Native.Nat.{ℕ}
 use mathlib.Core.Bool.{Bool}
 use lib.Dec.{eqb}

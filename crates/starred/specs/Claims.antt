@@ -1,4 +1,4 @@
--- Samples: the starred ones, each as what the definitions give and what the paper says.
+-- Rules 11.1 to 11.6 and 13.3: the starred samples, each as what the definitions give and what the rule says.
 use Prim.Native.Nat.{ℕ}
 use mathlib.Core.Path.{_≡_}
 use mathlib.Core.List.{List, [], _∷_}

@@ -1,4 +1,4 @@
--- What a call that changes a state answers.
+-- Rules 1.2 and 10.9: what a call that changes a state answers.
 use Rattle.reply.specs.declared.Reply.{Reply}
 use Rattle.reply.specs.declared.Reply.the-variants.{Done}
 use Rattle.state.specs.declared.State.{State}

@@ -1,4 +1,4 @@
--- What no single call states of lawful states.
+-- Rules 3.2 and 3.31 together: what no single call states of lawful states.
 use mathlib.Core.Path.{_≡_}
 use mathlib.Core.Bool.{true}
 use Rattle.state.specs.Lawful.{lawfulState}

@@ -1,5 +1,4 @@
--- The state and its registers: "A state is lawful when every field keeps the bounds above". A field that is not named here
--- may hold any byte.
+-- Rule 3.31: when a state is lawful. A field that is not named here may hold any byte.
 use Prim.Native.Nat.{ℕ}
 use mathlib.Core.List.{List, [], _∷_}
 use mathlib.Core.Bool.{Bool, true, _&&_}

@@ -1,4 +1,4 @@
--- The state and its registers: "Reset gives 0, palettes included, except where shown."
+-- Rule 3.2: the state after a reset.
 use mathlib.Core.List.{[], _∷_}
 use mathlib.Core.Bool.{false}
 use lib.ListN.{replicate}

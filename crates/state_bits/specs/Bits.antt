@@ -1,4 +1,4 @@
--- The state and its registers: what a bit of a stored byte means.
+-- Rules 3.3, 3.5, 3.13, 3.17, 3.20, 3.21, 3.23, 5.1 and 5.2: what a bit of a stored byte means.
 use Prim.Native.Nat.{ℕ, _+_, _*_, _/_, _%_}
 use mathlib.Core.Bool.{Bool, true, false}
 use lib.Dec.{leb, ltb, eqb}

@@ -1,4 +1,4 @@
--- What is drawn: a dot is a nine-bit colour, 0 to 511, or 512 for a transparent one.
+-- Rules 4.21 and 5.12: transparent dots, which are 512, and clips.
 use Prim.Native.Nat.{ℕ, _/_}
 use mathlib.Core.Bool.{Bool, cond, _&&_}
 use lib.Dec.{leb, eqb}

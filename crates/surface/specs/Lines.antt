@@ -1,4 +1,4 @@
--- What is drawn: the lines.
+-- Rules 2.1 and 2.4: the lines, and which of them run through the display.
 use Prim.Native.Nat.{ℕ, _-_}
 use mathlib.Core.Bool.{Bool, _&&_}
 use lib.Dec.{leb}

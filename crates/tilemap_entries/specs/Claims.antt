@@ -1,4 +1,4 @@
--- The addresses of a map, once over the column count and the size of an entry.
+-- Rule 13.4: the addresses of a map, once over the column count and the size of an entry.
 use Prim.Native.Nat.{ℕ, _+_, _*_, _/_, _%_, _≤_, _<_}
 use mathlib.Core.Path.{_≡_}
 use mathlib.Core.Bool.{Bool, true, false}

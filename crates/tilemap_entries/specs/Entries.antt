@@ -1,4 +1,4 @@
--- Tilemap dots: the entry at a position (x, y) of the surface, and the number of its tile.
+-- Rules 3.22, 5.1 to 5.5 and 5.12: the entry at a position (x, y) of the surface, and the number of its tile.
 use Prim.Native.Nat.{ℕ, _+_, _*_, _/_, _%_}
 use mathlib.Core.List.{List}
 use mathlib.Core.Bool.{Bool, cond}

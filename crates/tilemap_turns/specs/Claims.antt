@@ -1,4 +1,4 @@
--- The turns, once over the flag set: whatever 4 × x mirror + 2 × y mirror + rotate is.
+-- Rule 13.4: the turns, once over the flag set: whatever 4 × x mirror + 2 × y mirror + rotate is.
 use Prim.Native.Nat.{ℕ, _<_}
 use mathlib.Core.Path.{_≡_}
 use Rattle.tilemap_turns.specs.Turns.{columnOf, rowOf}

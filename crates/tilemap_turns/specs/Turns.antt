@@ -1,4 +1,4 @@
--- Tilemap dots: which pixel of a definition a place of a cell shows under a turn, and which half of a byte it is.
+-- Rules 5.3, 5.6 and 5.7: which pixel of a definition a place of a cell shows under a turn, and which half of a byte it is.
 use Prim.Native.Nat.{ℕ, _-_, _/_, _%_}
 use mathlib.Core.Bool.{Bool, true, false, cond, not}
 use lib.Dec.{eqb}

@@ -1,4 +1,4 @@
--- ULA dots: the 640 dots of a line.
+-- Rules 2.2, 2.4, 4.21 and 4.22: the 640 ULA dots of a line.
 use Prim.Native.Nat.{ℕ, _-_, _/_}
 use mathlib.Core.List.{List}
 use mathlib.Core.Bool.{Bool, cond, _&&_}

@@ -1,4 +1,4 @@
--- ULA dots: the addresses of each mode, by row y' and column x' div 8.
+-- Rules 4.6 to 4.8: the addresses of each mode, by row y' and column x' div 8.
 use Prim.Native.Nat.{ℕ, _+_}
 use Rattle.ula_mode.specs.declared.modes.Mode.{Mode}
 use Rattle.ula_mode.specs.declared.modes.Mode.the-variants.{Lores, Standard, Second, HighColour, HighResolution, Missing}

@@ -1,4 +1,4 @@
--- Facts of the addresses, each said once over all modes.
+-- Rule 13.4: facts of the addresses, each said once over all modes.
 use Prim.Native.Nat.{ℕ, _<_}
 use mathlib.Core.Path.{_≡_}
 use mathlib.Core.Bool.{cond}

@@ -1,4 +1,4 @@
--- ULA dots, "Index by attribute": the border's.
+-- Rules 4.18 and 4.19: the index of the border.
 use Prim.Native.Nat.{ℕ, _+_, _%_}
 use mathlib.Core.Bool.{Bool, cond}
 use Rattle.ula_scheme.specs.declared.schemes.Scheme.{Scheme}

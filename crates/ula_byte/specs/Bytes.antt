@@ -1,4 +1,4 @@
--- ULA dots: the bytes of the bank, by row y' and column x' div 8.
+-- Rules 4.4 to 4.6 and 4.9 to 4.11: the bytes of the bank, by row y' and column x' div 8.
 use Prim.Native.Nat.{ℕ, _+_, _-_, _*_, _/_, _%_, _^_}
 use mathlib.Core.Bool.{cond}
 use lib.Dec.{leb}

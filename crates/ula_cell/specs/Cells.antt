@@ -1,4 +1,4 @@
--- ULA dots: a dot of the display in the modes that show bits.
+-- Rules 4.5 and 4.9: a dot of the display in the modes that show bits.
 use Prim.Native.Nat.{ℕ, _/_}
 use mathlib.Core.List.{List}
 use lib.ListN.{getD}

@@ -1,4 +1,4 @@
--- ULA dots: LoRes, and the 512 dots of a line of the display.
+-- Rules 4.12 and 4.21: LoRes, and the 512 dots of a line of the display.
 use Prim.Native.Nat.{ℕ, _/_}
 use mathlib.Core.List.{List}
 use mathlib.Core.Bool.{cond}

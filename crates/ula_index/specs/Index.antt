@@ -1,4 +1,4 @@
--- ULA dots, "Index by attribute".
+-- Rules 4.5 and 4.13 to 4.17: the indices of an attribute.
 use Prim.Native.Nat.{ℕ, _+_, _*_, _/_, _%_}
 use mathlib.Core.Bool.{Bool, false, cond, not, _&&_}
 use lib.Bits.{bitAnd}

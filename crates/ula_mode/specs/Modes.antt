@@ -1,4 +1,4 @@
--- ULA dots: the mode. "LoRes is judged first. Otherwise the mode is $FF bits 2-0, or 0 without $08 bit 2."
+-- Rules 4.1, 4.2 and 12.2: the mode.
 use Prim.Native.Nat.{ℕ, _%_}
 use mathlib.Core.Bool.{Bool, true, false, cond}
 use lib.Dec.{eqb}

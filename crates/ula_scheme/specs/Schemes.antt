@@ -1,4 +1,4 @@
--- ULA dots: which of the three rules colours a state, and the numbers that it goes by.
+-- Rules 4.14 and 4.15: which of the three rules colours a state, and the numbers that it goes by.
 use Prim.Native.Nat.{ℕ, _/_, _%_}
 use mathlib.Core.Bool.{cond}
 use lib.Dec.{eqb}

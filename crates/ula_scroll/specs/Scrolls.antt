@@ -1,4 +1,4 @@
--- ULA dots: "Display pixel (x, y) reads x' = (x + $32 rounded down to a multiple of 8) mod 256, y' = (y + $33) mod 192."
+-- Rules 3.6, 4.3, 4.9 and 4.11: the byte of the bank that a pixel of the display reads, by the offsets.
 use Prim.Native.Nat.{ℕ, _+_, _*_, _/_, _%_}
 use mathlib.Core.Bool.{cond}
 use Rattle.state.specs.declared.Ula.{Ula}

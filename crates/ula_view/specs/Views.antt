@@ -1,4 +1,4 @@
--- ULA dots: what of the state a line shows.
+-- Rules 3.17, 4.3, 4.19 and 4.21: what of the state a line of the display shows.
 use Prim.Native.Nat.{ℕ}
 use mathlib.Core.List.{List}
 use mathlib.Core.Bool.{cond}
