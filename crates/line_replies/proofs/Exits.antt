@@ -11,11 +11,11 @@ use Rattle.reply.specs.declared.Reply.{Reply}
 use Rattle.reply.specs.declared.Reply.the-variants.{Done, NoLine, BankLength, BufferLength, NotLawful}
 use Rattle.reply.proofs.Done.{number-done, test-met}
 use Rattle.reply.proofs.Order.{all-done}
-use Rattle.state.specs.Lawful.{lawfulState}
+use Rattle.state.specs.Lawful.{lawfulState, lawfulReply}
 use Rattle.state.specs.declared.State.{State}
 use Rattle.surface.specs.Lines.{isLine}
 use Rattle.surface.specs.declared.lines.LineNumber.{LineNumber}
-use Rattle.line_replies.specs.Replies.{lineReply, lengthsReply, lawfulReply, stateReply, drawReply, drawnIf}
+use Rattle.line_replies.specs.Replies.{lineReply, lengthsReply, stateReply, drawReply, drawnIf}
 
 pub line-met : (l : LineNumber) → lineReply l ≡ Done → isLine l ≡ true
 unfolding lineReply
@@ -38,7 +38,7 @@ pub record Judged (l : LineNumber) (u t o : ℕ) (s : State) : Type 0 where
   pub lawful : lawfulState s ≡ true
 
 pub judged : (line : LineNumber) (ula tile out : ℕ) (s : State) (r : Reply) → r ≡ drawReply line ula tile out s → replyNumber r ≡ 0 → Judged line ula tile out s
-unfolding drawReply lawfulReply
+unfolding drawReply
 judged line ula tile out s r e n =
     let h = all-done (lineReply line ∷ lengthsReply ula tile out ∷ lawfulReply s ∷ stateReply (s .ula) (s .tiles) (s .palette) (s .ports) ∷ []) (sym e ∙ number-done r n) in
     let m = lengths-met ula tile out (h .1 .0) in

@@ -1,4 +1,4 @@
--- Rules 1.2, 2.5, 9.1 to 9.8, 10.1 and 10.9: what a drawing is refused for, and in which order.
+-- Rules 1.2, 2.5, 9.1 to 9.3, 9.5 to 9.8, 10.1 and 10.9: what a drawing is refused for, and in which order.
 use Prim.Native.Nat.{ℕ}
 use mathlib.Core.List.{List, [], _∷_}
 use mathlib.Core.Bool.{Bool, cond, _&&_}
@@ -6,9 +6,9 @@ use lib.Dec.{eqb, leb}
 use Rattle.reply.specs.Reply.{isDone}
 use Rattle.reply.specs.First.{firstHit}
 use Rattle.reply.specs.declared.Reply.{Reply}
-use Rattle.reply.specs.declared.Reply.the-variants.{Done, NoLine, BankLength, BufferLength, NotLawful, NoMode, LoresWithTiles, NextWithPlus, FarOffset}
+use Rattle.reply.specs.declared.Reply.the-variants.{Done, NoLine, BankLength, BufferLength, NoMode, LoresWithTiles, NextWithPlus, FarOffset}
 use Rattle.state_bits.specs.Bits.{loresOn, nextOn, ulaOn, tilemapOn, columns80, widthOf, xOffset}
-use Rattle.state.specs.Lawful.{lawfulState}
+use Rattle.state.specs.Lawful.{lawfulReply}
 use Rattle.state.specs.declared.State.{State}
 use Rattle.state.specs.declared.Ula.{Ula}
 use Rattle.state.specs.declared.Tiles.{Tiles}
@@ -25,10 +25,6 @@ lineReply line = cond (isLine line) Done NoLine
 -- 2: a bank not 16,384 long; 3: another lent buffer of the wrong length, which is the line of 640
 unfoldable pub lengthsReply : ℕ → ℕ → ℕ → Reply
 lengthsReply ula tile out = cond (eqb ula 16384 && eqb tile 16384) (cond (eqb out 640) Done BufferLength) BankLength
-
--- 4: state not lawful
-unfoldable pub lawfulReply : State → Reply
-lawfulReply s = cond (lawfulState s) Done NotLawful
 
 -- 6: LoRes and tilemap both on
 abbrev pub loresWithTiles : Ula → Tiles → Bool

@@ -2,7 +2,6 @@
 mod replies;
 
 pub use replies::draw_reply;
-pub use replies::lawful_reply;
 pub use replies::lengths_reply;
 pub use replies::line_reply;
 pub use replies::state_reply;

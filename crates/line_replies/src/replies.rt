@@ -1,6 +1,6 @@
 // What a drawing is refused for, piece by piece.
 ghost use mathlib.Core.Path.{_≡_};
-ghost use Rattle.line_replies.specs.Replies.{lineReply, lengthsReply, lawfulReply, loresWithTiles, nextWithPlus, noMode, farOffset, stateReply, drawReply};
+ghost use Rattle.line_replies.specs.Replies.{lineReply, lengthsReply, loresWithTiles, nextWithPlus, noMode, farOffset, stateReply, drawReply};
 use reply::Reply;
 use reply::first_of;
 use state::Palette;
@@ -8,6 +8,7 @@ use state::Ports;
 use state::State;
 use state::Tiles;
 use state::Ula;
+use state::lawful_reply;
 use surface::LineNumber;
 
 // Done where the line can be drawn.
@@ -33,16 +34,6 @@ pub fn lengths_reply(ula: usize, tile: usize, out: usize) -> Reply
         }
     } else {
         Reply::BankLength
-    }
-}
-
-pub fn lawful_reply(s: State) -> Reply
-    ensures { λ r. ⌜ r ≡ lawfulReply s ⌝ }
-{
-    if state::lawful(s) {
-        Reply::Done
-    } else {
-        Reply::NotLawful
     }
 }
 

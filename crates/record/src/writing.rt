@@ -2,8 +2,8 @@
 ghost use mathlib.Core.Path.{_≡_};
 ghost use mathlib.Core.Bool.{cond};
 ghost use lib.Dec.{eqb};
-ghost use Rattle.reply.specs.declared.Reply.the-variants.{Done, BufferLength, NotLawful};
-ghost use Rattle.state.specs.Lawful.{lawfulState};
+ghost use Rattle.reply.specs.declared.Reply.the-variants.{Done, BufferLength};
+ghost use Rattle.state.specs.Lawful.{lawfulReply};
 ghost use Rattle.record_layout.specs.Record.{recordLength, writeReply, writtenIn};
 use record_parts::put_record;
 use record_places::places;
@@ -11,7 +11,7 @@ use reply::Reply;
 use reply::first_of;
 use reply::number;
 use state::State;
-use state::lawful;
+use state::lawful_reply;
 
 // A target that is not as long as a record is refused.
 fn length_reply(length: usize) -> Reply
@@ -24,20 +24,9 @@ fn length_reply(length: usize) -> Reply
     }
 }
 
-// A state that is not lawful is refused.
-fn lawful_reply(s: State) -> Reply
-    ensures { λ r. ⌜ r ≡ cond (lawfulState s) Done NotLawful ⌝ }
-{
-    if lawful(s) {
-        Reply::Done
-    } else {
-        Reply::NotLawful
-    }
-}
-
 // What refuses a writing, the length before the state.
 fn write_reply(length: usize, s: State) -> Reply
-    ensures { λ r. ⌜ r ≡ cond (eqb length recordLength) (cond (lawfulState s) Done NotLawful) BufferLength ⌝ }
+    ensures { λ r. ⌜ r ≡ cond (eqb length recordLength) (lawfulReply s) BufferLength ⌝ }
 {
     let long = length_reply(length);
     let sound = lawful_reply(s);

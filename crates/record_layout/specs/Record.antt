@@ -7,11 +7,11 @@ use lib.ListN.{length, getD}
 use lib.Dec.{eqb}
 use Rattle.lists.specs.Search.{least}
 use Rattle.reply.specs.declared.Reply.{Reply}
-use Rattle.reply.specs.declared.Reply.the-variants.{Done, BufferLength, NotLawful, NotRecord}
+use Rattle.reply.specs.declared.Reply.the-variants.{BufferLength, NotRecord}
 use Rattle.state.specs.declared.State.{State}
 use Rattle.state.specs.declared.Answer.{Answer}
 use Rattle.state.specs.Answer.{done, refused}
-use Rattle.state.specs.Lawful.{lawfulState}
+use Rattle.state.specs.Lawful.{lawfulState, lawfulReply}
 use Rattle.state.specs.Reset.{resetState}
 use Rattle.record_layout.specs.Fields.{pair, fieldBytes, fieldAt}
 use Rattle.record_layout.specs.Parts.{sizes, bytesOf, stateAt, bad}
@@ -79,7 +79,7 @@ readRecord b = readAs current b
 
 -- record writing: 3, 4
 abbrev pub writeReply : List ℕ → State → Reply
-writeReply target s = cond (eqb (length target) recordLength) (cond (lawfulState s) Done NotLawful) BufferLength
+writeReply target s = cond (eqb (length target) recordLength) (lawfulReply s) BufferLength
 
 -- and the target afterwards
 abbrev pub writtenIn : List ℕ → State → List ℕ

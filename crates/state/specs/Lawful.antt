@@ -1,7 +1,9 @@
--- Rule 3.31: when a state is lawful. A field that is not named here may hold any byte.
+-- Rules 3.31 and 9.4: when a state is lawful. A field that is not named here may hold any byte.
 use Prim.Native.Nat.{ℕ}
 use mathlib.Core.List.{List, [], _∷_}
-use mathlib.Core.Bool.{Bool, true, _&&_}
+use mathlib.Core.Bool.{Bool, true, cond, _&&_}
+use Rattle.reply.specs.declared.Reply.{Reply}
+use Rattle.reply.specs.declared.Reply.the-variants.{Done, NotLawful}
 use Rattle.state.specs.declared.State.{State}
 use Rattle.state.specs.declared.Ula.{Ula}
 use Rattle.state.specs.declared.Tiles.{Tiles}
@@ -37,3 +39,7 @@ unfoldable pub lawfulState : State → Bool
 lawfulState s =
     (lawfulUla (s .ula) && lawfulPalette (s .palette) && lawfulTiles (s .tiles) && lawfulTurns (s .turns) && lawfulPorts (s .ports))
     && allColours (s .ulafirst) && allColours (s .ulasecond) && allColours (s .tilefirst) && allColours (s .tilesecond)
+
+-- the refusal of a state that is not lawful
+abbrev pub lawfulReply : State → Reply
+lawfulReply s = cond (lawfulState s) Done NotLawful

@@ -2,7 +2,7 @@
 // its definition.
 ghost use mathlib.Core.Path.{_≡_};
 ghost use mathlib.Core.Bool.{_&&_};
-ghost use Rattle.state.specs.Lawful.{lawfulUla, lawfulPalette, lawfulTiles, lawfulTurns, lawfulPorts, allColours, lawfulState};
+ghost use Rattle.state.specs.Lawful.{lawfulUla, lawfulPalette, lawfulTiles, lawfulTurns, lawfulPorts, allColours, lawfulState, lawfulReply};
 use crate::Palette;
 use crate::Ports;
 use crate::State;
@@ -21,6 +21,7 @@ use register_bounds::turn_fits;
 use register_bounds::ula_control_fits;
 use register_bounds::ula_y_fits;
 use register_bounds::x_high_fits;
+use reply::Reply;
 
 fn lawful_ula(u: Ula) -> bool
     ensures { λ r. ⌜ r ≡ lawfulUla u ⌝ }
@@ -88,4 +89,15 @@ pub fn lawful(s: State) -> bool
     let c = all_colours(&s.tilefirst);
     let d = all_colours(&s.tilesecond);
     registers & a & b & c & d
+}
+
+// The refusal of a state that is not lawful.
+pub fn lawful_reply(s: State) -> Reply
+    ensures { λ r. ⌜ r ≡ lawfulReply s ⌝ }
+{
+    if lawful(s) {
+        Reply::Done
+    } else {
+        Reply::NotLawful
+    }
 }

@@ -4,6 +4,7 @@ mod initial;
 
 pub use bounds::lawful;
 pub use bounds::lawful_registers;
+pub use bounds::lawful_reply;
 pub use initial::reset;
 use reply::Reply;
 
