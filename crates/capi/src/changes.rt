@@ -7,7 +7,8 @@ ghost use Rattle.lent.specs.Lent.{lentAnswer, lentAfter, resetReply, resetIn};
 use lent::Change;
 use reply::number;
 
-// The record of the reset state.
+// Puts the record of the reset state into `bytes`, whatever they hold; they only have to be as many as a record has.
+// Any other length is 3 and leaves them.
 #[no_mangle]
 pub extern "C" fn narephon_reset(bytes: &mut [u8]) -> u8
     ensures { λ r. ⌜ (r ≡ replyNumber (resetReply (now (bytes .entry)))) × (now (bytes .exit) ≡ resetIn (now (bytes .entry))) ⌝ }
@@ -15,7 +16,8 @@ pub extern "C" fn narephon_reset(bytes: &mut [u8]) -> u8
     number(lent::reset_record(bytes))
 }
 
-// The record of the state one frame on.
+// Moves the state in the record `bytes` one frame on, from 255 to 0.
+// Bytes that are no record are 13 and stay as they were.
 #[no_mangle]
 pub extern "C" fn narephon_next_frame(bytes: &mut [u8]) -> u8
     ensures { λ r. ⌜ (r ≡ replyNumber (lentAnswer nextFrame (now (bytes .entry)) .reply))
@@ -24,6 +26,8 @@ pub extern "C" fn narephon_next_frame(bytes: &mut [u8]) -> u8
     number(lent::change_record(bytes, Change::NextFrame))
 }
 
+// Writes `value` to the register of this number, in the record `bytes`.
+// Refused by 13, 9 or 10, it leaves the bytes, and with them a held half.
 #[no_mangle]
 pub extern "C" fn narephon_write_register(bytes: &mut [u8], register: u8, value: u8) -> u8
     ensures { λ r. ⌜ (r ≡ replyNumber (lentAnswer (λ s. writeRegister s register value) (now (bytes .entry)) .reply))
@@ -32,6 +36,8 @@ pub extern "C" fn narephon_write_register(bytes: &mut [u8], register: u8, value:
     number(lent::change_record(bytes, Change::Register(register, value)))
 }
 
+// Writes `value` to the port of this whole number ($00FE, $00FF, $BF3B or $FF3B), in the record `bytes`.
+// Refused by 13, 9 or 10, it leaves the bytes.
 #[no_mangle]
 pub extern "C" fn narephon_write_port(bytes: &mut [u8], port: u16, value: u8) -> u8
     ensures { λ r. ⌜ (r ≡ replyNumber (lentAnswer (λ s. writePort s port value) (now (bytes .entry)) .reply))

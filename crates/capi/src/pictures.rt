@@ -2,13 +2,15 @@
 ghost use mathlib.Core.Path.{_≡_};
 ghost use Rattle.reply.specs.Reply.{replyNumber};
 ghost use Rattle.colour.specs.Screen.{screenAnswer};
-ghost use Rattle.capi.specs.Packed.{LentPacked};
+ghost use Rattle.capi.specs.Packed.{LentPacked, LentFewest};
 ghost use lib.ListN.{length};
 ghost use Rattle.lent_drawing.specs.Drawn.{lentDrawReply, lentDrawn};
 ghost use Rattle.capi.specs.Lines.{numbered};
 use reply::number;
 use surface::LineNumber;
 
+// Puts the screen value of a nine-bit colour into `value`: red × 65,536 + green × 256 + blue.
+// A colour above 511 is 10 and sets `value` to 0.
 #[no_mangle]
 pub extern "C" fn narephon_screen_value(colour: u32, value: &mut u32) -> u8
     ensures { λ r. ⌜ (r ≡ replyNumber (screenAnswer colour .reply)) × (now (value .exit) ≡ screenAnswer colour .value) ⌝ }
@@ -19,7 +21,8 @@ pub extern "C" fn narephon_screen_value(colour: u32, value: &mut u32) -> u8
     number(r)
 }
 
-// Line 0 to 255 of the state in a record.
+// Draws a line, 0 to 255, of the state in the record `bytes` over the two banks, as 640 nine-bit colours in `dots`.
+// `ula` and `tile` may be the same bytes. Refused by 1, 2, 3, 13, 6, 7, 5 or 8, in this order, it leaves `dots`.
 #[no_mangle]
 pub extern "C" fn narephon_draw(
     bytes: &[u8],
@@ -35,6 +38,9 @@ pub extern "C" fn narephon_draw(
     number(r)
 }
 
+// Packs a picture into `map` and `definitions` with the fewest tiles there can be, at most `allowed` of them, every entry with
+// the palette offset given; `count` becomes their number.
+// Refused by 3, 12 or 11, in this order, it leaves both buffers and sets `count` to 0.
 #[no_mangle]
 pub extern "C" fn narephon_pack(
     picture: &[u8],
@@ -49,5 +55,17 @@ pub extern "C" fn narephon_pack(
     let packing = packer::pack(picture, allowed as usize, offset as usize, map, definitions);
     *count = packing.count as u32;
     let r = packing.reply;
+    number(r)
+}
+
+// Puts the fewest tiles that draw a picture into `count`: what a packing with 256 allowed counts, without its buffers.
+// A picture of another length is 3, one that no map draws is 11; both set `count` to 0.
+#[no_mangle]
+pub extern "C" fn narephon_fewest(picture: &[u8], count: &mut u32) -> u8
+    ensures { λ r. ⌜ LentFewest (now (picture .entry)) (now (count .exit)) r ⌝ }
+{
+    let fewest = packer::fewest(picture);
+    *count = fewest.count as u32;
+    let r = fewest.reply;
     number(r)
 }

@@ -1,11 +1,24 @@
 // The calls that read a lent record.
 ghost use mathlib.Core.Path.{_≡_};
 ghost use Rattle.reply.specs.Reply.{replyNumber};
+ghost use Rattle.record_layout.specs.Record.{readRecord};
 ghost use Rattle.registers.specs.Registers.{readRegister, readPort};
 ghost use Rattle.lent.specs.Lent.{lentReading};
 use lent::Query;
 use reply::number;
 
+// Says whether `bytes` are a record of a lawful state: 0, or 13 for every fault, a wrong length included.
+// It changes nothing. Every call that takes a record judges it so by itself; this one does nothing else.
+#[no_mangle]
+pub extern "C" fn narephon_check_record(bytes: &[u8]) -> u8
+    ensures { λ r. ⌜ r ≡ replyNumber (readRecord (now (bytes .entry)) .reply) ⌝ }
+{
+    let stored = record::record_reply(bytes);
+    number(stored)
+}
+
+// Reads the register of this number in the record `bytes` into `value`; nothing in the record moves.
+// Refused by 13 or 9, it sets `value` to 0.
 #[no_mangle]
 pub extern "C" fn narephon_read_register(bytes: &[u8], register: u8, value: &mut u8) -> u8
     ensures { λ r. ⌜ (r ≡ replyNumber (lentReading (λ s. readRegister s register) (now (bytes .entry)) .reply))
@@ -17,6 +30,8 @@ pub extern "C" fn narephon_read_register(bytes: &[u8], register: u8, value: &mut
     number(r)
 }
 
+// Reads the port of this whole number in the record `bytes` into `byte`; nothing in the record moves.
+// Refused by 13 or 9, it sets `byte` to 0. $00FE and $BF3B cannot be read, $00FF only while $08 bit 2 is set.
 #[no_mangle]
 pub extern "C" fn narephon_read_port(bytes: &[u8], port: u16, byte: &mut u8) -> u8
     ensures { λ r. ⌜ (r ≡ replyNumber (lentReading (λ s. readPort s port) (now (bytes .entry)) .reply))
