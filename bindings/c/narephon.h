@@ -4,11 +4,18 @@
  * caller keeps and lends. Every call ends with an answer on every input and
  * returns a reply number (NAREPHON_DONE is 0). On a refusal `*value` and
  * `*count` are set to 0, and the record and every other buffer stay as they
- * were.
+ * were. Later versions may answer with numbers that are not in this header: a
+ * caller takes any number but 0 for a refusal.
  *
  * A buffer is a pointer and its number of elements. A pointer is not null,
- * also where the number is 0. `ula` and `tile` may be the same pointer; a
- * buffer that is lent for writing overlaps no other buffer of the call.
+ * also where the number is 0. What is lent for reading may overlap: `ula` and
+ * `tile` may be the same pointer. What is lent for writing (the record of a
+ * call that changes it, `dots`, `map`, `definitions`, and `value` and `count`
+ * too) overlaps nothing else that the call is given.
+ *
+ * The library keeps nothing between calls and has no data of its own that it
+ * writes. Calls may run side by side in several threads as long as none writes
+ * to a buffer that another one is given.
  */
 #ifndef NAREPHON_H
 #define NAREPHON_H
@@ -20,6 +27,12 @@
 extern "C" {
 #endif
 
+/* The version of this header and of the library that it is delivered with. */
+#define NAREPHON_VERSION "0.1.0"
+#define NAREPHON_VERSION_MAJOR 0
+#define NAREPHON_VERSION_MINOR 1
+#define NAREPHON_VERSION_PATCH 0
+
 /* Lengths, in elements. */
 #define NAREPHON_RECORD 2150
 #define NAREPHON_BANK 16384
@@ -30,53 +43,94 @@ extern "C" {
 
 /* Reply numbers. */
 enum narephon_reply {
-    NAREPHON_DONE = 0,
-    NAREPHON_NO_LINE = 1,          /* line above 255 */
-    NAREPHON_BANK_LENGTH = 2,      /* a bank not 16,384 long */
-    NAREPHON_BUFFER_LENGTH = 3,    /* another lent buffer of the wrong length */
-    NAREPHON_NOT_LAWFUL = 4,       /* state not lawful; as a record it is 13 */
-    NAREPHON_NO_MODE = 5,          /* ULA on, LoRes off, no such mode */
-    NAREPHON_LORES_WITH_TILES = 6, /* LoRes and tilemap both on */
-    NAREPHON_NEXT_WITH_PLUS = 7,   /* ULANext and ULAplus both on */
-    NAREPHON_FAR_OFFSET = 8,       /* tilemap on, X offset at or above its width */
-    NAREPHON_NO_REGISTER = 9,      /* no such register or port, or not that way */
-    NAREPHON_OUT_OF_BOUNDS = 10,   /* value outside its bounds */
+    NAREPHON_DONE = 0,             /* done */
+    NAREPHON_NO_LINE = 1,          /* the line is above 255 */
+    NAREPHON_BANK_LENGTH = 2,      /* a bank is not 16,384 bytes long */
+    NAREPHON_BUFFER_LENGTH = 3,    /* another buffer has the wrong length */
+    NAREPHON_NOT_LAWFUL = 4,       /* the state is not lawful */
+    NAREPHON_NO_MODE = 5,          /* the ULA is on, LoRes is off, and port $FF gives no mode */
+    NAREPHON_LORES_WITH_TILES = 6, /* LoRes and the tilemap are both on */
+    NAREPHON_NEXT_WITH_PLUS = 7,   /* ULANext and ULAplus are both on */
+    NAREPHON_FAR_OFFSET = 8,       /* the tilemap is on and its X offset is past its width */
+    NAREPHON_NO_REGISTER = 9,      /* there is no such register or port, or it cannot be used that way */
+    NAREPHON_OUT_OF_BOUNDS = 10,   /* the value is out of its bounds */
     NAREPHON_TOO_MANY_TILES = 11,  /* no map naming at most the number allowed draws the picture */
-    NAREPHON_PACKING_BOUNDS = 12,  /* allowed above 256, or offset above 15 */
-    NAREPHON_NOT_RECORD = 13       /* bytes are not a record of a lawful state */
+    NAREPHON_PACKING_BOUNDS = 12,  /* the number allowed is above 256, or the palette offset above 15 */
+    NAREPHON_NOT_RECORD = 13       /* the bytes are not a record of a lawful state */
 };
 
-/* The record of the reset state. Replies: 3. */
+/* Below, "replies" are the refusals of a call in the order in which they are
+ * judged: where several hold, the first is given. No call gives 4: a state is
+ * always lent as a record, and a record of an unlawful state is 13. */
+
+/* Writes the record of the reset state into `record`, whatever it held;
+ * `record_len` is NAREPHON_RECORD. Replies: 3.
+ * A refusal leaves `record` as it was. */
 uint8_t narephon_reset(uint8_t *record, size_t record_len);
 
-/* One frame on, from 255 to 0. Replies: 13. */
+/* Says whether `record` is a record of a lawful state: 0, or 13 for every
+ * fault, a wrong length included. Replies: 13.
+ * It changes nothing. The other calls judge their record by themselves. */
+uint8_t narephon_check_record(const uint8_t *record, size_t record_len);
+
+/* Moves the state in `record` one frame on, from 255 to 0. Replies: 13.
+ * A refusal leaves `record` as it was. */
 uint8_t narephon_next_frame(uint8_t *record, size_t record_len);
 
-/* A write to a register, or to one of the ports $FE, $FF, $BF3B and $FF3B. Replies: 13, 9, 10. */
+/* Writes `value` to the register `number` of the state in `record`.
+ * Replies: 13, 9, 10.
+ * A refusal leaves `record` as it was, a half-sent colour still held. */
 uint8_t narephon_write_register(uint8_t *record, size_t record_len, uint8_t number, uint8_t value);
+
+/* Writes `value` to a port of the state in `record`: $00FE, $00FF, $BF3B or
+ * $FF3B, by its whole number. Replies: 13, 9, 10.
+ * A refusal leaves `record` as it was. */
 uint8_t narephon_write_port(uint8_t *record, size_t record_len, uint16_t port, uint8_t value);
 
-/* A read, which moves nothing. Replies: 13, 9. */
+/* Reads the register `number` of the state in `record` into `*value`. A read
+ * moves nothing in the record. Replies: 13, 9.
+ * A refusal sets `*value` to 0. */
 uint8_t narephon_read_register(const uint8_t *record, size_t record_len, uint8_t number, uint8_t *value);
+
+/* Reads a port of the state in `record` into `*value`: $FF3B, and $00FF while
+ * register $08 bit 2 is set. A read moves nothing in the record.
+ * Replies: 13, 9.
+ * A refusal sets `*value` to 0. */
 uint8_t narephon_read_port(const uint8_t *record, size_t record_len, uint16_t port, uint8_t *value);
 
-/* Line 0 to 255 as 640 nine-bit colours. Replies: 1, 2, 3, 13, 6, 7, 5, 8. */
+/* Draws line 0 to 255 of the state in `record` into `dots`: NAREPHON_DOTS
+ * nine-bit colours RRRGGGBBB, two for each pixel of a surface 320 wide.
+ * `ula_len` and `tile_len` are NAREPHON_BANK; the two banks may be the same.
+ * Replies: 1, 2, 3, 13, 6, 7, 5, 8.
+ * A refusal leaves `dots` as it was. */
 uint8_t narephon_draw(const uint8_t *record, size_t record_len,
                       const uint8_t *ula, size_t ula_len,
                       const uint8_t *tile, size_t tile_len,
                       uint32_t line, uint16_t *dots, size_t dots_len);
 
-/* A nine-bit colour as red x 65,536 + green x 256 + blue. Replies: 10. */
+/* Sets `*value` to the screen value of a nine-bit colour, 0 to 511: red x
+ * 65,536 + green x 256 + blue. Replies: 10.
+ * A refusal sets `*value` to 0. */
 uint8_t narephon_screen_value(uint32_t colour, uint32_t *value);
 
-/* A picture of 256 rows of 160 bytes, high half left, packed into a map of two
- * bytes an entry and 256 definitions, with the fewest tiles there can be.
- * Replies: 3, 12, 11. */
+/* Packs a picture into a map of two bytes an entry and 256 definitions of 32
+ * bytes, with the fewest tiles there can be, turns included. The picture is
+ * NAREPHON_PICTURE bytes, 256 rows of 160, high half left; `map_len` is
+ * NAREPHON_MAP, `definitions_len` NAREPHON_DEFINITIONS. At most `allowed` tiles
+ * are named, 256 or fewer; `offset` is the palette offset of every entry, 15 or
+ * less. `*count` becomes the number of tiles. Replies: 3, 12, 11.
+ * A refusal leaves `map` and `definitions` as they were and sets `*count` to 0. */
 uint8_t narephon_pack(const uint8_t *picture, size_t picture_len,
                       uint32_t allowed, uint32_t offset,
                       uint8_t *map, size_t map_len,
                       uint8_t *definitions, size_t definitions_len,
                       uint32_t *count);
+
+/* Sets `*count` to the fewest tiles that draw a picture of NAREPHON_PICTURE
+ * bytes: what narephon_pack counts with 256 allowed, without its buffers.
+ * Replies: 3, 11.
+ * A refusal sets `*count` to 0. */
+uint8_t narephon_fewest(const uint8_t *picture, size_t picture_len, uint32_t *count);
 
 #ifdef __cplusplus
 }

@@ -33,6 +33,15 @@ static void registers(void) {
     same("frame, short", narephon_next_frame(record, 3), NAREPHON_NOT_RECORD);
 }
 
+static void records(void) {
+    memcpy(before, record, sizeof record);
+    same("check", narephon_check_record(record, sizeof record), NAREPHON_DONE);
+    same("check, short", narephon_check_record(record, sizeof record - 1), NAREPHON_NOT_RECORD);
+    same("record kept", (uint32_t)memcmp(before, record, sizeof record), 0);
+    before[2] = 2;
+    same("check, version 2", narephon_check_record(before, sizeof before), NAREPHON_NOT_RECORD);
+}
+
 static void pictures(void) {
     uint32_t value = 99, count = 99;
     same("draw", narephon_draw(record, sizeof record, bank, sizeof bank, bank, sizeof bank, 255, dots, NAREPHON_DOTS),
@@ -50,10 +59,23 @@ static void pictures(void) {
          narephon_pack(picture, sizeof picture, 0, 0, map, sizeof map, definitions, sizeof definitions, &count),
          NAREPHON_TOO_MANY_TILES);
     same("its count", count, 0);
+    same("fewest", narephon_fewest(picture, sizeof picture, &count), NAREPHON_DONE);
+    same("how many", count, 1);
+    same("fewest, short", narephon_fewest(picture, sizeof picture - 1, &count), NAREPHON_BUFFER_LENGTH);
+    same("its count", count, 0);
+}
+
+/* The version as text is that of its numbers. */
+static void version(void) {
+    char text[32];
+    sprintf(text, "%d.%d.%d", NAREPHON_VERSION_MAJOR, NAREPHON_VERSION_MINOR, NAREPHON_VERSION_PATCH);
+    same("version", (uint32_t)strcmp(text, NAREPHON_VERSION), 0);
 }
 
 int main(void) {
+    version();
     registers();
+    records();
     pictures();
     printf("c: %d failures\n", failures);
     return failures != 0;
