@@ -158,6 +158,19 @@ pub fn reset(record: &mut Lent<u8>, seen: &mut Seen) -> Checked {
     Ok(reply)
 }
 
+/// A record judged and left, by whether the model reads it.
+pub fn check_record(record: &mut Lent<u8>, seen: &mut Seen) -> Checked {
+    let before = record.items().to_vec();
+    let (reply, _) = model::read_record(&before);
+    let got = unsafe { raw::narephon_check_record(record.pointer(), record.count()) };
+    same("check_record: reply", got, reply)?;
+    record.check("check_record: record", &before)?;
+    let answer = narephon::check_record(&before);
+    same("check_record: wrapper's reply", number(&answer), reply)?;
+    seen.reply(Call::CheckRecord, reply);
+    Ok(reply)
+}
+
 /// The two banks of a line. Where there is one, it is lent as both.
 pub struct Banks {
     banks: Vec<(Lent<u8>, Vec<u8>)>,
@@ -366,4 +379,22 @@ fn raw_pack(
     same("count", count, wanted)?;
     lent_picture.check("picture", picture)?;
     Ok(got)
+}
+
+/// The fewest tiles of a picture; the reply and the count.
+pub fn fewest(picture: &[u8], seen: &mut Seen) -> Result<(u8, u32), String> {
+    let (reply, wanted) = model::fewest(picture);
+    let name = |what: &str| format!("fewest of {} bytes: {what}", picture.len());
+    let mut lent = lend(picture);
+    let mut count = !wanted;
+    // SAFETY: the pointer and the length are those of one live buffer, and the count is no part of it.
+    let got = unsafe { raw::narephon_fewest(lent.pointer(), lent.count(), &mut count) };
+    same(&name("reply"), got, reply)?;
+    same(&name("count"), count, wanted)?;
+    lent.check(&name("picture"), picture)?;
+    let answer = narephon::fewest(picture);
+    same(&name("wrapper's reply"), number(&answer), reply)?;
+    same(&name("wrapper's count"), answer.unwrap_or(0), wanted)?;
+    seen.reply(Call::Fewest, reply);
+    Ok((reply, wanted))
 }

@@ -1,8 +1,8 @@
 //! The comparison's jobs. A job is so many rounds, and a round is told by its seed alone.
 
 use crate::calls::{
-    draw, lend, next_frame, pack, read_port, read_register, reset, screen_value, write_port,
-    write_register, Banks, Packing,
+    check_record, draw, fewest, lend, next_frame, pack, read_port, read_register, reset,
+    screen_value, write_port, write_register, Banks, Packing,
 };
 use crate::lent::{same, same_items, Lent};
 use crate::pictures;
@@ -207,6 +207,7 @@ fn script_step(
 /// Every call on the same bytes, which may be no record.
 fn every_call(random: &mut Random, bytes: &[u8], seen: &mut Seen) -> Done {
     let mut record = lend(bytes);
+    check_record(&mut record, seen)?;
     read_register(&mut record, register(random), seen)?;
     read_port(&mut record, port(random), seen)?;
     next_frame(&mut record, seen)?;
@@ -244,6 +245,7 @@ fn record_bytes(seed: u64, seen: &mut Seen) -> Done {
         }
         bytes[place] = byte;
         record.set(&bytes);
+        check_record(&mut record, seen)?;
         let (number, port) = (register(&mut random), port(&mut random));
         let written = value(&mut random);
         match random.below(4) {
@@ -341,13 +343,14 @@ const ASKED: Packing = Packing {
     definitions: 8_192,
 };
 
-/// A picture packed with all tiles allowed, with as many as it needs, and with one fewer.
+/// A picture packed with all tiles allowed, counted alone, and packed with as many as it needs and with one fewer.
 fn packings(seed: u64, seen: &mut Seen) -> Done {
     let mut random = Random::new(seed);
     let picture = pictures::picture(&mut random, seed);
     let mut asked = ASKED;
     asked.offset = random.below(16) as u32;
     let (reply, count) = pack(&picture, asked, seen)?;
+    same("the fewest", fewest(&picture, seen)?, (reply, count))?;
     if reply != DONE {
         asked.allowed = random.pick(&[0, 1, 100, 255]);
         pack(&picture, asked, seen)?;
@@ -363,7 +366,7 @@ fn packings(seed: u64, seen: &mut Seen) -> Done {
     same("reply to one fewer", pack(&picture, asked, seen)?.0, 11)
 }
 
-/// Screen values and packings beside their bounds, with wrong lengths in each place.
+/// Screen values, packings and counts beside their bounds, with wrong lengths in each place.
 fn bounds(seed: u64, seen: &mut Seen) -> Done {
     let mut random = Random::new(seed);
     for colour in 0..520 {
@@ -383,6 +386,7 @@ fn bounds(seed: u64, seen: &mut Seen) -> Done {
     };
     picture.resize(length(&mut random, 40_960), 0);
     pack(&picture, asked, seen)?;
+    fewest(&picture, seen)?;
     Ok(())
 }
 

@@ -9,6 +9,7 @@ use std::fmt::Write;
 #[derive(Clone, Copy, Debug, PartialEq, Eq, PartialOrd, Ord)]
 pub enum Call {
     Reset,
+    CheckRecord,
     NextFrame,
     WriteRegister,
     WritePort,
@@ -17,12 +18,14 @@ pub enum Call {
     Draw,
     ScreenValue,
     Pack,
+    Fewest,
 }
 
 /// The replies that each call can give. No call gives 4: an unlawful state can only come in a record, and such a record
 /// is 13.
-const POSSIBLE: [(Call, &[u8]); 9] = [
+const POSSIBLE: [(Call, &[u8]); 11] = [
     (Call::Reset, &[0, 3]),
+    (Call::CheckRecord, &[0, 13]),
     (Call::NextFrame, &[0, 13]),
     (Call::WriteRegister, &[0, 9, 10, 13]),
     (Call::WritePort, &[0, 9, 10, 13]),
@@ -31,6 +34,7 @@ const POSSIBLE: [(Call, &[u8]); 9] = [
     (Call::Draw, &[0, 1, 2, 3, 5, 6, 7, 8, 13]),
     (Call::ScreenValue, &[0, 10]),
     (Call::Pack, &[0, 3, 11, 12]),
+    (Call::Fewest, &[0, 3, 11]),
 ];
 
 const MODES: [(Mode, &str); 6] = [

@@ -1,107 +1,78 @@
 //! Narephon from Rust: lines, registers, records and tile packing of ZX Spectrum Next screens.
 //!
 //! A member's whole video state is a record of [`RECORD`] bytes that the caller keeps and lends. Every call answers on
-//! every input: `Ok`, or the [`Reply`] that refuses it and leaves every lent buffer as it was.
+//! every input: `Ok`, or the [`Reply`] that refuses it and leaves every lent buffer as it was. Where several refusals
+//! hold, the first in the order that a call names is given. The library keeps nothing between calls, so calls may run
+//! side by side in threads.
+//!
+//! ```
+//! let mut record = narephon::reset();
+//! narephon::write_port(&mut record, 0x00FE, 2)?;
+//! narephon::check_record(&record)?;
+//! let bank = [0; narephon::BANK];
+//! let mut dots = [0; narephon::DOTS];
+//! narephon::draw(&record, &bank, &bank, 0, &mut dots)?;
+//! let refused = narephon::write_register(&mut record, 0x42, 5).unwrap_err();
+//! assert_eq!(refused.to_string(), "refused 10: the value is out of its bounds");
+//! # Ok::<(), narephon::Reply>(())
+//! ```
+#![deny(missing_docs)]
 
 // The numbers and buffers behind a refusal, which the wrappers do not show.
 #[doc(hidden)]
 pub mod raw;
+mod reply;
 
-/// Bytes of a record, of a bank, of a picture, of a map and of definitions; numbers of a line.
+use reply::answered;
+pub use reply::Reply;
+
+/// The version of this wrapper and of the library that it is delivered with.
+pub const VERSION: &str = env!("CARGO_PKG_VERSION");
+
+/// Bytes of a record.
 pub const RECORD: usize = 2150;
+/// Bytes of a bank.
 pub const BANK: usize = 16384;
+/// Dots of a line.
 pub const DOTS: usize = 640;
+/// Bytes of a picture: 256 rows of 160, two pixels a byte, the left one in the high half.
 pub const PICTURE: usize = 40960;
+/// Bytes of a map: 40 × 32 entries of two bytes, low first.
 pub const MAP: usize = 2560;
+/// Bytes of 256 definitions of 32 bytes.
 pub const DEFINITIONS: usize = 8192;
-
-/// Why a call was refused.
-#[derive(Clone, Copy, Debug, PartialEq, Eq, Hash)]
-#[repr(u8)]
-pub enum Reply {
-    /// Line above 255.
-    NoLine = 1,
-    /// A bank not 16,384 long.
-    BankLength = 2,
-    /// Another lent buffer of the wrong length.
-    BufferLength = 3,
-    /// State not lawful; a record of one is `NotRecord`.
-    NotLawful = 4,
-    /// ULA on, LoRes off, no such mode.
-    NoMode = 5,
-    /// LoRes and tilemap both on.
-    LoresWithTiles = 6,
-    /// ULANext and ULAplus both on.
-    NextWithPlus = 7,
-    /// Tilemap on, X offset at or above its width.
-    FarOffset = 8,
-    /// No such register or port, or not that way.
-    NoRegister = 9,
-    /// Value outside its bounds.
-    OutOfBounds = 10,
-    /// No map naming at most the number allowed draws the picture.
-    TooManyTiles = 11,
-    /// Allowed above 256, or offset above 15.
-    PackingBounds = 12,
-    /// Bytes are not a record of a lawful state.
-    NotRecord = 13,
-}
-
-const REPLIES: [Reply; 13] = [
-    Reply::NoLine,
-    Reply::BankLength,
-    Reply::BufferLength,
-    Reply::NotLawful,
-    Reply::NoMode,
-    Reply::LoresWithTiles,
-    Reply::NextWithPlus,
-    Reply::FarOffset,
-    Reply::NoRegister,
-    Reply::OutOfBounds,
-    Reply::TooManyTiles,
-    Reply::PackingBounds,
-    Reply::NotRecord,
-];
-
-impl Reply {
-    /// The number of the reply table.
-    pub fn number(self) -> u8 {
-        self as u8
-    }
-}
-
-impl std::fmt::Display for Reply {
-    fn fmt(&self, f: &mut std::fmt::Formatter<'_>) -> std::fmt::Result {
-        write!(f, "refused {}: {:?}", self.number(), self)
-    }
-}
-
-impl std::error::Error for Reply {}
-
-fn answered<T>(reply: u8, value: T) -> Result<T, Reply> {
-    match reply {
-        0 => Ok(value),
-        n => Err(REPLIES[usize::from(n) - 1]),
-    }
-}
 
 /// The record of the reset state.
 pub fn reset() -> [u8; RECORD] {
     let mut record = [0; RECORD];
     // SAFETY: the pointer and the length are those of one live buffer.
     let reply = unsafe { raw::narephon_reset(record.as_mut_ptr(), record.len()) };
+    // A wrong length is all that it refuses.
     debug_assert_eq!(reply, 0);
     record
 }
 
-/// One frame on.
+/// Are these bytes a record of a lawful state? It changes nothing; the other calls judge their record by themselves.
+///
+/// Refused by [`Reply::NotRecord`] for every fault, a wrong length included.
+pub fn check_record(record: &[u8]) -> Result<(), Reply> {
+    // SAFETY: as in `reset`.
+    let reply = unsafe { raw::narephon_check_record(record.as_ptr(), record.len()) };
+    answered(reply, ())
+}
+
+/// Moves the state in a record one frame on, from 255 to 0.
+///
+/// Refused by 13, it leaves the record as it was.
 pub fn next_frame(record: &mut [u8]) -> Result<(), Reply> {
     // SAFETY: as in `reset`.
     let reply = unsafe { raw::narephon_next_frame(record.as_mut_ptr(), record.len()) };
     answered(reply, ())
 }
 
-/// A write to a register.
+/// Writes a value to a register of the state in a record.
+///
+/// Refused by 13, 9 or 10, it leaves the record as it was, a half-sent colour still held.
 pub fn write_register(record: &mut [u8], number: u8, value: u8) -> Result<(), Reply> {
     // SAFETY: as in `reset`.
     let reply =
@@ -109,14 +80,18 @@ pub fn write_register(record: &mut [u8], number: u8, value: u8) -> Result<(), Re
     answered(reply, ())
 }
 
-/// A write to a port.
+/// Writes a value to a port of the state in a record: `0x00FE`, `0x00FF`, `0xBF3B` or `0xFF3B`.
+///
+/// Refused by 13, 9 or 10, it leaves the record as it was.
 pub fn write_port(record: &mut [u8], port: u16, value: u8) -> Result<(), Reply> {
     // SAFETY: as in `reset`.
     let reply = unsafe { raw::narephon_write_port(record.as_mut_ptr(), record.len(), port, value) };
     answered(reply, ())
 }
 
-/// What a register reads as. A read moves nothing.
+/// What a register of the state in a record reads as. A read moves nothing.
+///
+/// Refused by 13 or 9.
 pub fn read_register(record: &[u8], number: u8) -> Result<u8, Reply> {
     let mut value = 0;
     // SAFETY: as in `reset`; `value` is no part of the record.
@@ -125,7 +100,9 @@ pub fn read_register(record: &[u8], number: u8) -> Result<u8, Reply> {
     answered(reply, value)
 }
 
-/// What a port reads as.
+/// What a port of the state in a record reads as: `0xFF3B`, and `0x00FF` while register `0x08` bit 2 is set.
+///
+/// Refused by 13 or 9.
 pub fn read_port(record: &[u8], port: u16) -> Result<u8, Reply> {
     let mut value = 0;
     // SAFETY: as in `read_register`.
@@ -133,7 +110,10 @@ pub fn read_port(record: &[u8], port: u16) -> Result<u8, Reply> {
     answered(reply, value)
 }
 
-/// A line, 0 to 255, as 640 nine-bit colours in `dots`. The two banks may be the same.
+/// Draws a line, 0 to 255, of the state in a record, as [`DOTS`] nine-bit colours in `dots`. The banks have [`BANK`] bytes
+/// each and may be the same.
+///
+/// Refused by 1, 2, 3, 13, 6, 7, 5 or 8, it leaves `dots` as it was.
 pub fn draw(
     record: &[u8],
     ula: &[u8],
@@ -158,7 +138,9 @@ pub fn draw(
     answered(reply, ())
 }
 
-/// A nine-bit colour as red × 65,536 + green × 256 + blue.
+/// A nine-bit colour, 0 to 511, as red × 65,536 + green × 256 + blue.
+///
+/// Refused by 10.
 pub fn screen_value(colour: u32) -> Result<u32, Reply> {
     let mut value = 0;
     // SAFETY: `value` is live and borrowed alone.
@@ -166,7 +148,10 @@ pub fn screen_value(colour: u32) -> Result<u32, Reply> {
     answered(reply, value)
 }
 
-/// A picture packed into a map and definitions with the fewest tiles there can be; how many they are.
+/// Packs a picture into a map and definitions with the fewest tiles there can be, turns included, and says how many they
+/// are. At most `allowed` are named, 256 or fewer; `offset` is the palette offset of every entry, 15 or less.
+///
+/// Refused by 3, 12 or 11, it leaves `map` and `definitions` as they were.
 pub fn pack(
     picture: &[u8],
     allowed: u32,
@@ -189,5 +174,15 @@ pub fn pack(
             &mut count,
         )
     };
+    answered(reply, count)
+}
+
+/// The fewest tiles that draw a picture: what [`pack`] counts with 256 allowed, without its buffers.
+///
+/// Refused by 3 or 11.
+pub fn fewest(picture: &[u8]) -> Result<u32, Reply> {
+    let mut count = 0;
+    // SAFETY: the pointer and the length are those of one live buffer, and `count` is no part of it.
+    let reply = unsafe { raw::narephon_fewest(picture.as_ptr(), picture.len(), &mut count) };
     answered(reply, count)
 }

@@ -3,6 +3,7 @@
 #[link(name = "narephon", kind = "static")]
 extern "C" {
     pub fn narephon_reset(record: *mut u8, record_len: usize) -> u8;
+    pub fn narephon_check_record(record: *const u8, record_len: usize) -> u8;
     pub fn narephon_next_frame(record: *mut u8, record_len: usize) -> u8;
     pub fn narephon_write_register(record: *mut u8, record_len: usize, number: u8, value: u8)
         -> u8;
@@ -42,4 +43,5 @@ extern "C" {
         definitions_len: usize,
         count: *mut u32,
     ) -> u8;
+    pub fn narephon_fewest(picture: *const u8, picture_len: usize, count: *mut u32) -> u8;
 }

@@ -30,6 +30,19 @@ fn registers_and_ports() {
 }
 
 #[test]
+fn records_checked() {
+    let mut record = narephon::reset();
+    let kept = record;
+    assert_eq!(narephon::check_record(&record), Ok(()));
+    assert_eq!(narephon::check_record(&record[1..]), Err(Reply::NotRecord));
+    assert_eq!(narephon::check_record(&[]), Err(Reply::NotRecord));
+    assert!(record == kept);
+    // The version.
+    record[2] = 2;
+    assert_eq!(narephon::check_record(&record), Err(Reply::NotRecord));
+}
+
+#[test]
 fn lines_and_screen_values() {
     let mut record = narephon::reset();
     let bank = [0; narephon::BANK];
@@ -60,10 +73,33 @@ fn packings() {
     assert!(map == [1; narephon::MAP] && definitions == [1; narephon::DEFINITIONS]);
     let both = narephon::pack(&picture, 256, 0, &mut map, &mut definitions);
     assert_eq!(both, Ok(2));
+    assert_eq!(narephon::fewest(&picture), Ok(2));
+    let short = narephon::fewest(&picture[1..]);
+    assert_eq!(short, Err(Reply::BufferLength));
     assert_eq!(
         (map[0], map[2], definitions[0], definitions[32]),
         (0, 1, 0x10, 0)
     );
+}
+
+/// More different cells than a map can name: each has its number in its first four pixels.
+#[test]
+fn no_map_draws() {
+    let mut picture = [0; narephon::PICTURE];
+    for cell in 0..1280 {
+        let place = cell / 40 * 8 * 160 + cell % 40 * 4;
+        picture[place] = (cell / 256) as u8;
+        picture[place + 1] = cell as u8;
+    }
+    assert_eq!(narephon::fewest(&picture), Err(Reply::TooManyTiles));
+}
+
+/// The wrapper and the C header have one version.
+#[test]
+fn one_version() {
+    let header = include_str!("../../../c/narephon.h");
+    let line = format!("#define NAREPHON_VERSION \"{}\"", narephon::VERSION);
+    assert!(header.lines().any(|said| said == line));
 }
 
 /// A member sends the next half of a nine-bit colour, or any other byte.
