@@ -10,23 +10,30 @@ fn file(name: &str, bytes: &[u8]) -> PathBuf {
     path
 }
 
-/// What the program prints, and whether it ended well.
-fn run(words: &[&str], files: &[&PathBuf]) -> (String, bool) {
+/// What the program writes, and whether it ended well.
+fn run_bytes(words: &[&str], files: &[&PathBuf]) -> (Vec<u8>, bool) {
     let output = Command::new(env!("CARGO_BIN_EXE_model"))
         .args(words)
         .args(files)
         .output()
         .unwrap();
-    (
-        String::from_utf8(output.stdout).unwrap(),
-        output.status.success(),
-    )
+    (output.stdout, output.status.success())
+}
+
+/// The same where it is text.
+fn run(words: &[&str], files: &[&PathBuf]) -> (String, bool) {
+    let (bytes, well) = run_bytes(words, files);
+    (String::from_utf8(bytes).unwrap(), well)
+}
+
+fn record_of(state: &model::State) -> Vec<u8> {
+    let mut bytes = vec![0; model::RECORD_LENGTH];
+    assert_eq!(model::write_record(state, &mut bytes), 0);
+    bytes
 }
 
 fn reset_record() -> Vec<u8> {
-    let mut bytes = vec![0; model::RECORD_LENGTH];
-    assert_eq!(model::write_record(&model::State::reset(), &mut bytes), 0);
-    bytes
+    record_of(&model::State::reset())
 }
 
 #[test]
@@ -76,6 +83,30 @@ fn lines() {
     let expected = "2 -\n".repeat(256);
     assert_eq!(run(&["lines"], &[&record, &bank, &short]), (expected, true));
     assert!(!run(&["lines"], &[&bank, &bank, &bank]).1);
+}
+
+/// Blue paper and border, and a red pixel in the corner of the display: two dots of line 32, and the line twice.
+#[test]
+fn a_picture() {
+    let mut state = model::State::reset();
+    state.palettes[0][16] = 7;
+    state.palettes[0][0] = 448;
+    let mut bytes = [0; 16_384];
+    bytes[0] = 0x80;
+    let record = file("picture_record", &record_of(&state));
+    let bank = file("picture_bank", &bytes);
+    let mut pixels = vec![[0, 0, 255]; 640 * 512];
+    for row in [64, 65] {
+        pixels[row * 640 + 64..row * 640 + 66].fill([255, 0, 0]);
+    }
+    let mut expected = b"P6\n640 512\n255\n".to_vec();
+    expected.extend(pixels.concat());
+    let (written, well) = run_bytes(&["picture"], &[&record, &bank, &bank]);
+    assert!(well && written == expected);
+    // Nothing is written of a picture that is refused.
+    let short = file("picture_short", &[0; 16_383]);
+    let refused = run(&["picture"], &[&record, &bank, &short]);
+    assert_eq!(refused, (String::new(), false));
 }
 
 #[test]

@@ -1,40 +1,50 @@
-//! Works out expected answers: register scripts, records, lines, packings.
+//! Works out expected answers: register scripts, records, lines, pictures, packings.
 
-use model::reply::{DONE, NO_SUCH_REGISTER};
+use model::reply::{Reply, DONE, NO_SUCH_REGISTER};
 use model::sums::dots_sum;
 use model::{
-    draw, next_frame, pack, read_port, read_record, read_register, write_port, write_record,
-    write_register, State, DOTS, RECORD_LENGTH,
+    draw, next_frame, pack, read_port, read_record, read_register, screen_value, write_port,
+    write_record, write_register, State, DOTS, RECORD_LENGTH,
 };
 use std::env::args;
 use std::fs::read;
+use std::io::Write;
 use std::process::ExitCode;
 
 const USAGE: &str = "usage: model script FILE
        model record FILE
        model lines RECORD ULABANK TILEBANK
+       model picture RECORD ULABANK TILEBANK
        model pack FILE";
 
 fn main() -> ExitCode {
     let words: Vec<String> = args().skip(1).collect();
     let words: Vec<&str> = words.iter().map(String::as_str).collect();
-    let answer = match words[..] {
-        ["script", file] => load(file).and_then(|bytes| script(&bytes)),
-        ["record", file] => load(file).map(|bytes| record(&bytes)),
-        ["lines", record, ula, tile] => lines(record, ula, tile),
-        ["pack", file] => load(file).map(|bytes| packing(&bytes)),
-        _ => Err(USAGE.to_string()),
-    };
-    match answer {
-        Ok(text) => {
-            print!("{text}");
-            ExitCode::SUCCESS
-        }
-        Err(text) => {
-            eprintln!("{text}");
-            ExitCode::FAILURE
-        }
+    match answer(&words) {
+        Ok(bytes) => match std::io::stdout().write_all(&bytes) {
+            Ok(()) => ExitCode::SUCCESS,
+            Err(fault) => failed(&format!("standard output: {fault}")),
+        },
+        Err(text) => failed(&text),
     }
+}
+
+fn failed(text: &str) -> ExitCode {
+    eprintln!("{text}");
+    ExitCode::FAILURE
+}
+
+/// What goes to standard output.
+fn answer(words: &[&str]) -> Result<Vec<u8>, String> {
+    let text = match words[..] {
+        ["script", file] => script(&load(file)?)?,
+        ["record", file] => record(&load(file)?),
+        ["lines", record, ula, tile] => lines(&screen(record, ula, tile)?),
+        ["picture", record, ula, tile] => return picture(&screen(record, ula, tile)?),
+        ["pack", file] => packing(&load(file)?),
+        _ => return Err(USAGE.to_string()),
+    };
+    Ok(text.into_bytes())
 }
 
 /// All bytes of a file.
@@ -108,24 +118,63 @@ fn record(bytes: &[u8]) -> String {
     format!("{reply} {}\n", if same { "same" } else { "different" })
 }
 
-/// The reply and the Adler-32 of each of the 256 lines.
-fn lines(record: &str, ula: &str, tile: &str) -> Result<String, String> {
+/// What lines are drawn from.
+struct Screen {
+    state: State,
+    ula: Vec<u8>,
+    tile: Vec<u8>,
+}
+
+impl Screen {
+    fn draw(&self, line: u32) -> (Reply, [u16; DOTS]) {
+        let mut dots = [0; DOTS];
+        let reply = draw(line, &self.ula, &self.tile, &self.state, &mut dots);
+        (reply, dots)
+    }
+}
+
+fn screen(record: &str, ula: &str, tile: &str) -> Result<Screen, String> {
     let (reply, state) = read_record(&load(record)?);
     if reply != DONE {
         return Err(format!("{record}: refused {reply}"));
     }
     let (ula, tile) = (load(ula)?, load(tile)?);
+    Ok(Screen { state, ula, tile })
+}
+
+/// The reply and the Adler-32 of each of the 256 lines.
+fn lines(screen: &Screen) -> String {
     let mut text = String::new();
     for line in 0..256 {
-        let mut dots = [0; DOTS];
-        let reply = draw(line, &ula, &tile, &state, &mut dots);
+        let (reply, dots) = screen.draw(line);
         if reply == DONE {
             text += &format!("{reply} {:08x}\n", dots_sum(&dots));
         } else {
             text += &format!("{reply} -\n");
         }
     }
-    Ok(text)
+    text
+}
+
+/// A binary PPM of 640 × 512: each of the 256 lines twice, every dot by its screen value.
+fn picture(screen: &Screen) -> Result<Vec<u8>, String> {
+    let mut ppm = b"P6\n640 512\n255\n".to_vec();
+    for line in 0..256 {
+        let (reply, dots) = screen.draw(line);
+        if reply != DONE {
+            return Err(format!("line {line}: refused {reply}"));
+        }
+        let pixels: Vec<u8> = dots.iter().flat_map(|&dot| pixel(dot)).collect();
+        ppm.extend(pixels.repeat(2));
+    }
+    Ok(ppm)
+}
+
+/// Red, green and blue of a dot.
+fn pixel(dot: u16) -> [u8; 3] {
+    let (_, value) = screen_value(u32::from(dot));
+    let [_, red, green, blue] = value.to_be_bytes();
+    [red, green, blue]
 }
 
 /// "allows 256, uses offset 0, and prints one line, `tiles N` or `refused N`."
