@@ -1,4 +1,5 @@
--- Packing into lent buffers, and the fewest without them: the packer's promises, with its answer taken apart.
+-- Rules 1.6 to 1.8 by the exported calls: packing into lent buffers, and the fewest without them, the packer's promises with its answer
+-- taken apart.
 use Prim.Native.Nat.{ℕ}
 use mathlib.Core.Path.{_≡_}
 use mathlib.Core.List.{List}

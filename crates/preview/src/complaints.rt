@@ -20,7 +20,7 @@ pub fn missing(path: &[u8]) {
 // What a state is refused for.
 fn state_meaning(r: Reply) {
     match r {
-        Reply::NoMode => say(b"the ULA is on, LoRes off, and port $FF gives no mode"),
+        Reply::NoMode => say(b"the ULA is on, LoRes is off, and port $FF gives no mode"),
         Reply::LoresWithTiles => say(b"LoRes and the tilemap are both on"),
         Reply::NextWithPlus => say(b"ULANext and ULAplus are both on"),
         Reply::FarOffset => say(b"the tilemap is on and its X offset is past its width"),
