@@ -1,22 +1,31 @@
 """Narephon from Python: lines, registers, records and tile packing of ZX Spectrum Next screens.
 
-A member's whole video state is a record of ``RECORD`` bytes that the caller keeps. Every function takes bytes and gives
-bytes back; a refused call raises ``Refused``, which holds the ``Reply``, and changes nothing.
+A member's whole video state is a record of ``RECORD`` bytes that the caller keeps. Every function takes bytes
+(``bytes``, ``bytearray`` or ``memoryview``) and gives ``bytes`` back; what it is given it never changes. A refused call
+raises ``Refused``, which holds the ``Reply`` and prints its number and sentence; where several refusals hold, it is the
+first in the order that a function names. An argument of another type raises ``TypeError``, and a number that the
+library's parameter cannot hold ``ValueError``, before the library is called. Nothing is kept between calls, so that
+calls may run side by side in threads.
+
+The library is the file that the environment variable NAREPHON_LIBRARY names; else the one inside the package, as
+installed; else that of the checkout in which the package stands, as ``bindings/build`` makes it.
 """
 
 from __future__ import annotations
 
 import ctypes
-import os
-from enum import IntEnum
-from pathlib import Path
-from typing import NamedTuple
+from typing import Any, NamedTuple, Union
+
+from . import _library
+from .replies import Refused, Reply
 
 __all__ = [
-    "BANK", "DEFINITIONS", "DOTS", "MAP", "PICTURE", "RECORD", "Packing", "Refused", "Reply",
-    "draw", "next_frame", "pack", "read_port", "read_register", "reset", "screen_value", "write_port",
-    "write_register",
+    "BANK", "DEFINITIONS", "DOTS", "MAP", "PICTURE", "RECORD", "BytesLike", "Packing", "Refused", "Reply",
+    "draw", "next_frame", "pack", "read_port", "read_register",
+    "reset", "screen_value", "write_port", "write_register",
 ]
+
+__version__ = "0.1.0"
 
 RECORD = 2150
 BANK = 16384
@@ -25,32 +34,9 @@ PICTURE = 40960
 MAP = 2560
 DEFINITIONS = 8192
 
+BytesLike = Union[bytes, bytearray, memoryview]
 
-class Reply(IntEnum):
-    """The reply table: the answer of every call."""
-
-    DONE = 0
-    NO_LINE = 1
-    BANK_LENGTH = 2
-    BUFFER_LENGTH = 3
-    NOT_LAWFUL = 4
-    NO_MODE = 5
-    LORES_WITH_TILES = 6
-    NEXT_WITH_PLUS = 7
-    FAR_OFFSET = 8
-    NO_REGISTER = 9
-    OUT_OF_BOUNDS = 10
-    TOO_MANY_TILES = 11
-    PACKING_BOUNDS = 12
-    NOT_RECORD = 13
-
-
-class Refused(Exception):
-    """A call that was refused; ``reply`` says why."""
-
-    def __init__(self, reply: Reply) -> None:
-        super().__init__(f"refused {int(reply)}: {reply.name}")
-        self.reply = reply
+_narephon = _library.load()
 
 
 class Packing(NamedTuple):
@@ -61,119 +47,132 @@ class Packing(NamedTuple):
     definitions: bytes
 
 
-def _library() -> ctypes.CDLL:
-    """The shared library: the one that NAREPHON_LIBRARY names, or the one that ``bindings/build`` makes."""
-    made = Path(__file__).resolve().parents[3] / "target" / "bindings" / "libnarephon.so"
-    return ctypes.CDLL(os.environ.get("NAREPHON_LIBRARY", str(made)))
-
-
-_BYTES = (ctypes.POINTER(ctypes.c_uint8), ctypes.c_size_t)
-_NUMBERS = (ctypes.POINTER(ctypes.c_uint16), ctypes.c_size_t)
-_BYTE = ctypes.POINTER(ctypes.c_uint8)
-_WORD = ctypes.POINTER(ctypes.c_uint32)
-_SIGNATURES = {
-    "narephon_reset": [*_BYTES],
-    "narephon_next_frame": [*_BYTES],
-    "narephon_write_register": [*_BYTES, ctypes.c_uint8, ctypes.c_uint8],
-    "narephon_write_port": [*_BYTES, ctypes.c_uint16, ctypes.c_uint8],
-    "narephon_read_register": [*_BYTES, ctypes.c_uint8, _BYTE],
-    "narephon_read_port": [*_BYTES, ctypes.c_uint16, _BYTE],
-    "narephon_draw": [*_BYTES, *_BYTES, *_BYTES, ctypes.c_uint32, *_NUMBERS],
-    "narephon_screen_value": [ctypes.c_uint32, _WORD],
-    "narephon_pack": [*_BYTES, ctypes.c_uint32, ctypes.c_uint32, *_BYTES, *_BYTES, _WORD],
-}
-_narephon = _library()
-for _name, _arguments in _SIGNATURES.items():
-    getattr(_narephon, _name).argtypes = _arguments
-    getattr(_narephon, _name).restype = ctypes.c_uint8
-
-
-def _lent(data: bytes) -> tuple[ctypes.Array[ctypes.c_uint8], int]:
-    """A copy of the bytes that a call may be lent, and their number; never a null pointer."""
-    return (ctypes.c_uint8 * max(len(data), 1)).from_buffer_copy(data or b"\0"), len(data)
+def _lent(name: str, data: BytesLike) -> tuple[ctypes.Array[ctypes.c_uint8], int]:
+    """A copy of the argument's bytes that a call may be lent, and their number; never a null pointer."""
+    if not isinstance(data, (bytes, bytearray, memoryview)):
+        raise TypeError(f"{name} must be bytes, a bytearray or a memoryview, not {type(data).__name__}")
+    copy = bytes(data)
+    return (ctypes.c_uint8 * max(len(copy), 1)).from_buffer_copy(copy or b"\0"), len(copy)
 
 
 def _within(bits: int, **numbers: int) -> None:
-    """Raises ``ValueError`` for a number that the library's parameter cannot hold: ctypes would cut it."""
+    """Raises ``ValueError`` for a number that the library's parameter cannot hold, which ctypes would cut."""
     for name, number in numbers.items():
+        if not isinstance(number, int):
+            raise TypeError(f"{name} must be an int, not {type(number).__name__}")
         if not 0 <= number < 1 << bits:
-            raise ValueError(f"{name} must be from 0 to {(1 << bits) - 1}")
+            raise ValueError(f"{name} is {number}, which {bits} unsigned bits cannot hold")
 
 
 def _answered(reply: int) -> None:
+    """Raises ``Refused`` for every reply but 0."""
     if reply:
         raise Refused(Reply(reply))
 
 
 def reset() -> bytes:
-    """The record of the reset state."""
-    record, length = _lent(bytes(RECORD))
+    """The record of the reset state, which a new member starts with. It is never refused."""
+    record, length = _lent("record", bytes(RECORD))
     _answered(_narephon.narephon_reset(record, length))
     return bytes(record)
 
 
-def next_frame(record: bytes) -> bytes:
-    """The record one frame on."""
-    after, length = _lent(record)
+def next_frame(record: BytesLike) -> bytes:
+    """The record one frame on, from 255 to 0.
+
+    Raises ``Refused`` with reply 13; the record given stays as it was.
+    """
+    after, length = _lent("record", record)
     _answered(_narephon.narephon_next_frame(after, length))
     return bytes(after)
 
 
-def write_register(record: bytes, number: int, value: int) -> bytes:
-    """The record after a write to a register."""
+def write_register(record: BytesLike, number: int, value: int) -> bytes:
+    """The record after a write of a byte, ``value``, to the register of that ``number``.
+
+    Raises ``Refused`` with reply 13, 9 or 10; the record given stays as it was, a half-sent colour included.
+    """
     _within(8, number=number, value=value)
-    after, length = _lent(record)
+    after, length = _lent("record", record)
     _answered(_narephon.narephon_write_register(after, length, number, value))
     return bytes(after)
 
 
-def write_port(record: bytes, port: int, value: int) -> bytes:
-    """The record after a write to a port."""
+def write_port(record: BytesLike, port: int, value: int) -> bytes:
+    """The record after a write of a byte, ``value``, to a port: $FE, $FF, $BF3B or $FF3B.
+
+    Raises ``Refused`` with reply 13, 9 or 10; the record given stays as it was.
+    """
     _within(16, port=port)
     _within(8, value=value)
-    after, length = _lent(record)
+    after, length = _lent("record", record)
     _answered(_narephon.narephon_write_port(after, length, port, value))
     return bytes(after)
 
 
-def read_register(record: bytes, number: int) -> int:
-    """What a register reads as. A read moves nothing."""
+def read_register(record: BytesLike, number: int) -> int:
+    """The byte that the register of that ``number`` reads as. A read moves nothing.
+
+    Raises ``Refused`` with reply 13 or 9.
+    """
     _within(8, number=number)
     value = ctypes.c_uint8()
-    _answered(_narephon.narephon_read_register(*_lent(record), number, ctypes.byref(value)))
+    _answered(_narephon.narephon_read_register(*_lent("record", record), number, ctypes.byref(value)))
     return value.value
 
 
-def read_port(record: bytes, port: int) -> int:
-    """What a port reads as."""
+def read_port(record: BytesLike, port: int) -> int:
+    """The byte that a port reads as: $FF3B, or $FF while register $08 bit 2 is set. A read moves nothing.
+
+    Raises ``Refused`` with reply 13 or 9.
+    """
     _within(16, port=port)
     value = ctypes.c_uint8()
-    _answered(_narephon.narephon_read_port(*_lent(record), port, ctypes.byref(value)))
+    _answered(_narephon.narephon_read_port(*_lent("record", record), port, ctypes.byref(value)))
     return value.value
 
 
-def draw(record: bytes, ula: bytes, tile: bytes, line: int) -> list[int]:
-    """A line, 0 to 255, as 640 nine-bit colours."""
-    _within(32, line=line)
+def _screen(record: BytesLike, ula: BytesLike, tile: BytesLike) -> tuple[Any, ...]:
+    """What every line of a screen is drawn from, lent."""
+    return (*_lent("record", record), *_lent("ula", ula), *_lent("tile", tile))
+
+
+def _dots(screen: tuple[Any, ...], line: int) -> list[int]:
+    """A line of a lent screen, or ``Refused``."""
     dots = (ctypes.c_uint16 * DOTS)()
-    _answered(_narephon.narephon_draw(*_lent(record), *_lent(ula), *_lent(tile), line, dots, DOTS))
-    return list(dots)
+    _answered(_narephon.narephon_draw(*screen, line, dots, DOTS))
+    return dots[:]
+
+
+def draw(record: BytesLike, ula: BytesLike, tile: BytesLike, line: int) -> list[int]:
+    """A line, 0 to 255, of a member's screen as 640 nine-bit colours.
+
+    ``ula`` and ``tile`` are the two banks of ``BANK`` bytes, which may be the same. Raises ``Refused`` with reply 1, 2,
+    13, 6, 7, 5 or 8; record and banks stay as they were, as they do where the line is drawn.
+    """
+    _within(32, line=line)
+    return _dots(_screen(record, ula, tile), line)
 
 
 def screen_value(colour: int) -> int:
-    """A nine-bit colour as red × 65,536 + green × 256 + blue."""
+    """A nine-bit colour as red × 65,536 + green × 256 + blue. Raises ``Refused`` with reply 10 above 511."""
     _within(32, colour=colour)
     value = ctypes.c_uint32()
     _answered(_narephon.narephon_screen_value(colour, ctypes.byref(value)))
     return value.value
 
 
-def pack(picture: bytes, allowed: int = 256, offset: int = 0) -> Packing:
-    """A picture packed into a map and definitions with the fewest tiles there can be."""
+def pack(picture: BytesLike, allowed: int = 256, offset: int = 0) -> Packing:
+    """A picture packed into a map and definitions with the fewest tiles there can be.
+
+    ``picture`` is 256 rows of 160 bytes, two pixels a byte, the left one in the high half; ``allowed`` is the most
+    tiles that the map may name, up to 256; ``offset`` is the palette offset of every entry, up to 15. Raises
+    ``Refused`` with reply 3, 12 or 11; the picture stays as it was.
+    """
     _within(32, allowed=allowed, offset=offset)
-    map_bytes, map_length = _lent(bytes(MAP))
-    definitions, definitions_length = _lent(bytes(DEFINITIONS))
+    map_bytes, map_length = _lent("map", bytes(MAP))
+    definitions, definitions_length = _lent("definitions", bytes(DEFINITIONS))
     count = ctypes.c_uint32()
-    _answered(_narephon.narephon_pack(*_lent(picture), allowed, offset, map_bytes, map_length,
+    _answered(_narephon.narephon_pack(*_lent("picture", picture), allowed, offset, map_bytes, map_length,
                                       definitions, definitions_length, ctypes.byref(count)))
     return Packing(count.value, bytes(map_bytes), bytes(definitions))

@@ -1,21 +1,18 @@
-"""The binding's own promises: bytes in, bytes out, refusals raised with their number, no member's half in another's record."""
+"""The binding's own promises: bytes in, bytes out, refusals raised with their number, what is given stays."""
 
-import contextlib
-import io
-import runpy
+from __future__ import annotations
+
+import re
 import unittest
-from pathlib import Path
 
 import narephon
-from narephon import Refused, Reply
+from narephon import Reply
+from support import REPOSITORY, Case
+
+BANK = bytes(16384)
 
 
-class Records(unittest.TestCase):
-    def refused(self, reply: Reply, call, *arguments) -> None:
-        with self.assertRaises(Refused) as caught:
-            call(*arguments)
-        self.assertEqual(caught.exception.reply, reply)
-
+class Records(Case):
     def test_reset_and_frames(self) -> None:
         record = narephon.reset()
         self.assertEqual(record[:3], bytes([8, 100, 1]))
@@ -40,41 +37,104 @@ class Records(unittest.TestCase):
         self.refused(Reply.OUT_OF_BOUNDS, narephon.write_register, record, 0x42, 5)
         self.refused(Reply.NOT_RECORD, narephon.write_register, record[:-1], 0x42, 7)
         self.refused(Reply.NOT_RECORD, narephon.next_frame, b"")
-        self.refused(Reply.NO_LINE, narephon.draw, record, bytes(16384), bytes(16384), 256)
-        self.refused(Reply.BANK_LENGTH, narephon.draw, record, b"", bytes(16384), 0)
-        self.refused(Reply.OUT_OF_BOUNDS, narephon.screen_value, 512)
 
-    def test_numbers_that_do_not_fit(self) -> None:
-        record = narephon.reset()
-        for call in (lambda: narephon.write_register(record, 0x142, 7), lambda: narephon.read_port(record, 65536),
-                     lambda: narephon.draw(record, bytes(16384), bytes(16384), -1)):
-            with self.assertRaises(ValueError):
-                call()
 
-    def test_drawing(self) -> None:
+class Drawing(Case):
+    def test_a_line(self) -> None:
         record = narephon.write_register(narephon.write_register(narephon.reset(), 0x40, 16), 0x41, 0xFF)
-        bank = bytes(16384)
-        self.assertEqual(narephon.draw(record, bank, bank, 0), [511] * 640)
+        self.assertEqual(narephon.draw(record, BANK, BANK, 0), [511] * 640)
         self.assertEqual(narephon.screen_value(455), 0xFF00FF)
 
-    def test_packing(self) -> None:
+    def test_refusals(self) -> None:
+        record = narephon.reset()
+        self.refused(Reply.NO_LINE, narephon.draw, record, BANK, BANK, 256)
+        self.refused(Reply.BANK_LENGTH, narephon.draw, record, b"", BANK, 0)
+        self.refused(Reply.NOT_RECORD, narephon.draw, b"", BANK, BANK, 0)
+        self.refused(Reply.OUT_OF_BOUNDS, narephon.screen_value, 512)
+
+
+class Packing(Case):
+    def test_one_tile(self) -> None:
         packing = narephon.pack(bytes(40960), 1, 15)
         self.assertEqual(packing.count, 1)
         self.assertEqual(packing.map, bytes([0, 240]) * 1280)
         self.assertEqual(packing.definitions, bytes(8192))
+
+    def test_refusals(self) -> None:
         self.refused(Reply.TOO_MANY_TILES, narephon.pack, bytes(40960), 0, 0)
         self.refused(Reply.PACKING_BOUNDS, narephon.pack, bytes(40960), 257, 0)
+        self.refused(Reply.PACKING_BOUNDS, narephon.pack, bytes(40960), 256, 16)
         self.refused(Reply.BUFFER_LENGTH, narephon.pack, bytes(40959))
+        self.refused(Reply.TOO_MANY_TILES, narephon.pack, different_cells())
 
-    def test_the_bot_keeps_members_apart(self) -> None:
-        bot = Path(__file__).resolve().parents[1] / "examples" / "bot.py"
-        said = io.StringIO()
-        with contextlib.redirect_stdout(said):
-            runpy.run_path(str(bot), run_name="__main__")
-        self.assertEqual(said.getvalue().splitlines(), [
-            "member 8 finished her colour: index 13", "member 7 still holds his half: index 12",
-            "member 7: colour 454", "member 8: colour 57",
-        ])
+
+def different_cells() -> bytes:
+    """A picture of more than 256 cells that cannot be turned into each other: its top row counts them."""
+    tops = [bytes([cell // 256, cell % 256, 0, 0]) for cell in range(1280)]
+    return b"".join([b"".join(tops[start:start + 40]) + bytes(7 * 160) for start in range(0, 1280, 40)])
+
+
+class Arguments(Case):
+    def test_bytes_of_each_kind(self) -> None:
+        record = narephon.write_register(narephon.reset(), 0x4A, 0xFF)
+        expected = narephon.draw(record, BANK, BANK, 0)
+        for kind in (bytearray, memoryview):
+            self.assertEqual(narephon.draw(kind(record), kind(BANK), kind(BANK), 0), expected)
+        every_second = memoryview(bytes([byte for byte in record for _ in range(2)]))[::2]
+        self.assertEqual(narephon.next_frame(every_second), narephon.next_frame(record))
+
+    def test_what_is_given_stays(self) -> None:
+        record = bytearray(narephon.reset())
+        before = bytes(record)
+        after = narephon.write_register(record, 0x31, 192)
+        self.refused(Reply.OUT_OF_BOUNDS, narephon.write_register, record, 0x42, 5)
+        self.assertEqual(record, before)
+        self.assertIsInstance(after, bytes)
+
+    def test_what_is_no_bytes(self) -> None:
+        record = narephon.reset()
+        for given, kind in (("record", "str"), ([0] * 2150, "list"), (None, "NoneType"), (2150, "int")):
+            with self.assertRaises(TypeError) as caught:
+                narephon.next_frame(given)  # type: ignore[arg-type]
+            said = f"record must be bytes, a bytearray or a memoryview, not {kind}"
+            self.assertEqual(str(caught.exception), said)
+        with self.assertRaisesRegex(TypeError, "^tile must be bytes"):
+            narephon.draw(record, BANK, "tile", 0)  # type: ignore[arg-type]
+
+    def test_what_is_no_number(self) -> None:
+        for given, kind in (("7", "str"), (7.0, "float"), (None, "NoneType")):
+            with self.assertRaises(TypeError) as caught:
+                narephon.write_register(narephon.reset(), 0x42, given)  # type: ignore[arg-type]
+            self.assertEqual(str(caught.exception), f"value must be an int, not {kind}")
+
+    def test_numbers_that_do_not_fit(self) -> None:
+        record = narephon.reset()
+        for call in (lambda: narephon.write_register(record, 0x142, 7), lambda: narephon.read_port(record, 65536),
+                     lambda: narephon.draw(record, BANK, BANK, -1), lambda: narephon.pack(bytes(40960), 1 << 32)):
+            with self.assertRaisesRegex(ValueError, "unsigned bits cannot hold$"):
+                call()
+
+
+class Header(Case):
+    """What the wrapper has of the C header."""
+
+    def setUp(self) -> None:
+        self.header = (REPOSITORY / "bindings" / "c" / "narephon.h").read_text(encoding="utf-8")
+
+    def test_the_replies(self) -> None:
+        stated = re.findall(r"^    NAREPHON_(\w+) = (\d+)", self.header, re.MULTILINE)
+        self.assertEqual([(reply.name, str(int(reply))) for reply in Reply], stated)
+
+    def test_the_lengths(self) -> None:
+        stated = re.findall(r"^#define NAREPHON_(RECORD|BANK|DOTS|PICTURE|MAP|DEFINITIONS) (\d+)$", self.header,
+                            re.MULTILINE)
+        self.assertEqual(len(stated), 6)
+        for name, length in stated:
+            self.assertEqual(getattr(narephon, name), int(length), name)
+
+    def test_the_calls(self) -> None:
+        for name in re.findall(r"^uint8_t narephon_(\w+)\(", self.header, re.MULTILINE):
+            self.assertTrue(getattr(narephon, name).__doc__, name)
 
 
 if __name__ == "__main__":

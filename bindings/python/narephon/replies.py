@@ -1,0 +1,59 @@
+"""The reply table, and the exception that a refused call raises."""
+
+from __future__ import annotations
+
+from enum import IntEnum
+
+_UNKNOWN = "a reply that this wrapper does not know: the library is newer than it"
+
+
+class Reply(IntEnum):
+    """The answer of a call: its number, and in ``sentence`` what it says.
+
+    A number from 14 to 255 is a reply too, one of a newer library, with a name of its own and a sentence that says so.
+    """
+
+    sentence: str
+
+    def __new__(cls, number: int, sentence: str) -> Reply:
+        reply = int.__new__(cls, number)
+        reply._value_ = number
+        reply.sentence = sentence
+        return reply
+
+    DONE = 0, "done"
+    NO_LINE = 1, "the line is above 255"
+    BANK_LENGTH = 2, "a bank is not 16,384 bytes long"
+    BUFFER_LENGTH = 3, "another buffer has the wrong length"
+    NOT_LAWFUL = 4, "the state is not lawful"
+    NO_MODE = 5, "the ULA is on, LoRes is off, and port $FF gives no mode"
+    LORES_WITH_TILES = 6, "LoRes and the tilemap are both on"
+    NEXT_WITH_PLUS = 7, "ULANext and ULAplus are both on"
+    FAR_OFFSET = 8, "the tilemap is on and its X offset is past its width"
+    NO_REGISTER = 9, "there is no such register or port, or it cannot be used that way"
+    OUT_OF_BOUNDS = 10, "the value is out of its bounds"
+    TOO_MANY_TILES = 11, "no map naming at most the number allowed draws the picture"
+    PACKING_BOUNDS = 12, "the number allowed is above 256, or the palette offset above 15"
+    NOT_RECORD = 13, "the bytes are not a record of a lawful state"
+
+    @classmethod
+    def _missing_(cls, value: object) -> Reply | None:
+        """The reply of a number that the table does not have; None, which Enum refuses, for what is no byte."""
+        if not isinstance(value, int) or not 0 <= value <= 255:
+            return None
+        reply = int.__new__(cls, value)
+        reply._name_ = f"UNKNOWN_{value}"
+        reply._value_ = value
+        reply.sentence = _UNKNOWN
+        return reply
+
+
+class Refused(Exception):
+    """A call that was refused and changed nothing; ``reply`` says why."""
+
+    def __init__(self, reply: Reply) -> None:
+        super().__init__(reply)
+        self.reply = reply
+
+    def __str__(self) -> str:
+        return f"refused {int(self.reply)}: {self.reply.sentence}"

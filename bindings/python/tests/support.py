@@ -1,0 +1,56 @@
+"""What the tests share: the repository's files, Python run apart from this one, and a reader of PNG files."""
+
+from __future__ import annotations
+
+import os
+import shutil
+import subprocess
+import sys
+import unittest
+from pathlib import Path
+from typing import Any, Callable
+
+import narephon
+from narephon import Refused, Reply
+
+PYTHON = Path(__file__).resolve().parents[1]
+REPOSITORY = PYTHON.parents[1]
+LIBRARY = Path(narephon._narephon._name)
+NAME = "libnarephon.so"
+
+
+class Case(unittest.TestCase):
+    def refused(self, reply: Reply, call: Callable[..., Any], *arguments: Any) -> None:
+        with self.assertRaises(Refused) as caught:
+            call(*arguments)
+        self.assertIs(caught.exception.reply, reply)
+
+
+def sample() -> tuple[bytes, bytes, bytes]:
+    """The example screen: its record, ULA bank and tile bank."""
+    folder = REPOSITORY / "bindings" / "rust" / "compare" / "sample"
+    return (folder / "record").read_bytes(), (folder / "ula").read_bytes(), (folder / "tile").read_bytes()
+
+
+def checkout(folder: Path) -> Path:
+    """A copy in the folder of what a checkout has for Python, with its library; gives its bindings/python."""
+    python = folder / "bindings" / "python"
+    shutil.copytree(str(PYTHON), str(python), ignore=shutil.ignore_patterns("__pycache__", "*.so"))
+    shutil.copy(str(REPOSITORY / "LICENSE"), str(folder))
+    shutil.copy(str(REPOSITORY / "bindings" / "build"), str(folder / "bindings"))
+    made = folder / "target" / "bindings"
+    made.mkdir(parents=True)
+    shutil.copy(str(LIBRARY), str(made / NAME))
+    return python
+
+
+def python(folder: Path, *arguments: str, **environment: str) -> subprocess.CompletedProcess[str]:
+    """Python run in the folder with no environment but the one given."""
+    return subprocess.run([sys.executable, *arguments], cwd=str(folder), env=environment, stdout=subprocess.PIPE,
+                          stderr=subprocess.PIPE, encoding="utf-8")
+
+
+def environment_of(package: Path, library: str | None = None) -> dict[str, str]:
+    """An environment in which the package's folder is found, and NAREPHON_LIBRARY names the library given."""
+    named = {} if library is None else {"NAREPHON_LIBRARY": library}
+    return {"PYTHONPATH": os.fspath(package), **named}
