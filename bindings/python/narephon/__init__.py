@@ -21,7 +21,7 @@ from .replies import Refused, Reply
 
 __all__ = [
     "BANK", "DEFINITIONS", "DOTS", "MAP", "PICTURE", "RECORD", "BytesLike", "Packing", "Refused", "Reply",
-    "draw", "next_frame", "pack", "read_port", "read_register",
+    "check_record", "draw", "fewest", "is_record", "next_frame", "pack", "read_port", "read_register",
     "reset", "screen_value", "write_port", "write_register",
 ]
 
@@ -75,6 +75,20 @@ def reset() -> bytes:
     record, length = _lent("record", bytes(RECORD))
     _answered(_narephon.narephon_reset(record, length))
     return bytes(record)
+
+
+def check_record(record: BytesLike) -> None:
+    """Judges whether the bytes are a record of a lawful state, and changes nothing.
+
+    Raises ``Refused`` with reply 13 where they are not, a wrong length included. The other functions judge their record
+    by themselves.
+    """
+    _answered(_narephon.narephon_check_record(*_lent("record", record)))
+
+
+def is_record(record: BytesLike) -> bool:
+    """Whether the bytes are a record of a lawful state, as ``check_record`` judges; never refused, changes nothing."""
+    return _narephon.narephon_check_record(*_lent("record", record)) == Reply.DONE
 
 
 def next_frame(record: BytesLike) -> bytes:
@@ -176,3 +190,13 @@ def pack(picture: BytesLike, allowed: int = 256, offset: int = 0) -> Packing:
     _answered(_narephon.narephon_pack(*_lent("picture", picture), allowed, offset, map_bytes, map_length,
                                       definitions, definitions_length, ctypes.byref(count)))
     return Packing(count.value, bytes(map_bytes), bytes(definitions))
+
+
+def fewest(picture: BytesLike) -> int:
+    """The fewest tiles that draw a picture: what ``pack`` counts with 256 allowed, without a map and definitions.
+
+    Raises ``Refused`` with reply 3 or 11; the picture stays as it was.
+    """
+    count = ctypes.c_uint32()
+    _answered(_narephon.narephon_fewest(*_lent("picture", picture), ctypes.byref(count)))
+    return count.value

@@ -14,6 +14,7 @@ _BYTE = ctypes.POINTER(ctypes.c_uint8)
 _WORD = ctypes.POINTER(ctypes.c_uint32)
 _SIGNATURES = {
     "narephon_reset": [*_BYTES],
+    "narephon_check_record": [*_BYTES],
     "narephon_next_frame": [*_BYTES],
     "narephon_write_register": [*_BYTES, ctypes.c_uint8, ctypes.c_uint8],
     "narephon_write_port": [*_BYTES, ctypes.c_uint16, ctypes.c_uint8],
@@ -22,6 +23,7 @@ _SIGNATURES = {
     "narephon_draw": [*_BYTES, *_BYTES, *_BYTES, ctypes.c_uint32, *_NUMBERS],
     "narephon_screen_value": [ctypes.c_uint32, _WORD],
     "narephon_pack": [*_BYTES, ctypes.c_uint32, ctypes.c_uint32, *_BYTES, *_BYTES, _WORD],
+    "narephon_fewest": [*_BYTES, _WORD],
 }
 
 

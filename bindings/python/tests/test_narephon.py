@@ -38,6 +38,15 @@ class Records(Case):
         self.refused(Reply.NOT_RECORD, narephon.write_register, record[:-1], 0x42, 7)
         self.refused(Reply.NOT_RECORD, narephon.next_frame, b"")
 
+    def test_what_is_a_record(self) -> None:
+        record = narephon.reset()
+        narephon.check_record(record)
+        self.assertIs(narephon.is_record(record), True)
+        unlawful = record[:-2] + bytes([2, 0])  # a colour above 511
+        for damaged in (b"", record[:-1], record + b"\0", b"\0" + record[1:], unlawful):
+            self.assertIs(narephon.is_record(damaged), False)
+            self.refused(Reply.NOT_RECORD, narephon.check_record, damaged)
+
 
 class Drawing(Case):
     def test_a_line(self) -> None:
@@ -59,13 +68,22 @@ class Packing(Case):
         self.assertEqual(packing.count, 1)
         self.assertEqual(packing.map, bytes([0, 240]) * 1280)
         self.assertEqual(packing.definitions, bytes(8192))
+        self.assertEqual(narephon.fewest(bytes(40960)), 1)
+
+    def test_fewest_is_what_a_packing_counts(self) -> None:
+        # The eight rows of a cell in four bytes each: pixel 1 in one corner and pixel 2 somewhere in the top row.
+        picture = b"".join([bytes([0x10 + 2 * (column % 2), 0, column % 3, 0]) for column in range(40)])
+        picture = (picture + bytes(7 * 160)) * 32
+        self.assertEqual(narephon.fewest(picture), narephon.pack(picture).count)
+        self.assertGreater(narephon.fewest(picture), 1)
 
     def test_refusals(self) -> None:
         self.refused(Reply.TOO_MANY_TILES, narephon.pack, bytes(40960), 0, 0)
         self.refused(Reply.PACKING_BOUNDS, narephon.pack, bytes(40960), 257, 0)
         self.refused(Reply.PACKING_BOUNDS, narephon.pack, bytes(40960), 256, 16)
-        self.refused(Reply.BUFFER_LENGTH, narephon.pack, bytes(40959))
-        self.refused(Reply.TOO_MANY_TILES, narephon.pack, different_cells())
+        for call in (narephon.pack, narephon.fewest):
+            self.refused(Reply.BUFFER_LENGTH, call, bytes(40959))
+            self.refused(Reply.TOO_MANY_TILES, call, different_cells())
 
 
 def different_cells() -> bytes:
