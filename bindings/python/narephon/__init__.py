@@ -16,12 +16,12 @@ from __future__ import annotations
 import ctypes
 from typing import Any, NamedTuple, Union
 
-from . import _library
+from . import _library, _png
 from .replies import Refused, Reply
 
 __all__ = [
     "BANK", "DEFINITIONS", "DOTS", "MAP", "PICTURE", "RECORD", "BytesLike", "Packing", "Refused", "Reply",
-    "check_record", "draw", "fewest", "is_record", "next_frame", "pack", "read_port", "read_register",
+    "check_record", "draw", "fewest", "is_record", "next_frame", "pack", "preview_png", "read_port", "read_register",
     "reset", "screen_value", "write_port", "write_register",
 ]
 
@@ -33,6 +33,9 @@ DOTS = 640
 PICTURE = 40960
 MAP = 2560
 DEFINITIONS = 8192
+
+_LINES = 256
+_COLOURS = 512
 
 BytesLike = Union[bytes, bytearray, memoryview]
 
@@ -174,6 +177,19 @@ def screen_value(colour: int) -> int:
     value = ctypes.c_uint32()
     _answered(_narephon.narephon_screen_value(colour, ctypes.byref(value)))
     return value.value
+
+
+def preview_png(record: BytesLike, ula: BytesLike, tile: BytesLike) -> bytes:
+    """A member's whole screen as a PNG file, 640 × 512: each of the 256 lines twice, in the colours' screen values.
+
+    ``ula`` and ``tile`` are the two banks of ``BANK`` bytes, which may be the same. Raises ``Refused`` as ``draw``
+    does, with reply 2, 13, 6, 7, 5 or 8, before anything is made; record and banks stay as they were.
+    """
+    screen = _screen(record, ula, tile)
+    lines = [_dots(screen, line) for line in range(_LINES)]
+    pixels = [screen_value(colour).to_bytes(3, "big") for colour in range(_COLOURS)]
+    rows = [b"".join([pixels[dot] for dot in dots]) for dots in lines]
+    return _png.encoded(DOTS, [row for row in rows for _ in range(2)])
 
 
 def pack(picture: BytesLike, allowed: int = 256, offset: int = 0) -> Packing:

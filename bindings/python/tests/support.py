@@ -4,9 +4,11 @@ from __future__ import annotations
 
 import os
 import shutil
+import struct
 import subprocess
 import sys
 import unittest
+import zlib
 from pathlib import Path
 from typing import Any, Callable
 
@@ -54,3 +56,30 @@ def environment_of(package: Path, library: str | None = None) -> dict[str, str]:
     """An environment in which the package's folder is found, and NAREPHON_LIBRARY names the library given."""
     named = {} if library is None else {"NAREPHON_LIBRARY": library}
     return {"PYTHONPATH": os.fspath(package), **named}
+
+
+def chunks(file: bytes) -> list[tuple[bytes, bytes]]:
+    """The chunks of a PNG file, each with its kind; a wrong signature or check sum is an error."""
+    assert file[:8] == b"\x89PNG\r\n\x1a\n"
+    found, place = [], 8
+    while place < len(file):
+        length, kind = struct.unpack_from(">I4s", file, place)
+        data = file[place + 8:place + 8 + length]
+        (check,) = struct.unpack_from(">I", file, place + 8 + length)
+        assert check == zlib.crc32(kind + data)
+        found.append((kind, data))
+        place += 12 + length
+    return found
+
+
+def pixels(file: bytes) -> list[list[int]]:
+    """The rows of a PNG file of unfiltered 8-bit RGB, each pixel as red × 65,536 + green × 256 + blue."""
+    (head, size), *middle, (end, nothing) = chunks(file)
+    width, height, *kind = struct.unpack(">IIBBBBB", size)
+    assert (head, end, nothing, kind) == (b"IHDR", b"IEND", b"", [8, 2, 0, 0, 0])
+    data = zlib.decompress(b"".join([part for name, part in middle if name == b"IDAT"]))
+    stride = 1 + 3 * width
+    assert len(data) == height * stride
+    rows = [data[place:place + stride] for place in range(0, len(data), stride)]
+    assert all([row[0] == 0 for row in rows])
+    return [[int.from_bytes(row[place:place + 3], "big") for place in range(1, stride, 3)] for row in rows]
