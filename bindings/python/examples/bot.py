@@ -1,7 +1,18 @@
 """A bot's states, kept by member number. Two members share a nickname; one has sent half a nine-bit colour, the other
-sends a byte of her own, and neither reaches the other. Run it with bindings/python on PYTHONPATH."""
+sends a byte of her own, and neither reaches the other. The bot then writes a preview of a member's screen.
+
+    python3 bot.py [PNG-FILE]
+
+The file is preview.png in the current folder where none is named. It runs in any folder once the package is installed
+(pip install ./bindings/python), and in a checkout with bindings/python on PYTHONPATH."""
+
+import sys
+from pathlib import Path
 
 import narephon
+
+# Black, blue, red, magenta, green, cyan, yellow and white, as register $41 takes them.
+COLOURS = (0x00, 0x02, 0xA0, 0xA2, 0x14, 0x16, 0xB4, 0xB6)
 
 
 class Bot:
@@ -17,10 +28,12 @@ class Bot:
     def read(self, member: int, register: int) -> int:
         return narephon.read_register(self.records[member], register)
 
+    def preview(self, member: int, ula: bytes, tile: bytes) -> bytes:
+        return narephon.preview_png(self.records[member], ula, tile)
 
-def main() -> None:
-    bot = Bot()
-    # Members 7 and 8 are both called Rufus.
+
+def keep_apart(bot: Bot) -> None:
+    """Members 7 and 8 are both called Rufus."""
     for member in (7, 8):
         bot.write(member, 0x40, 12)
     bot.write(7, 0x44, 0xE3)
@@ -32,6 +45,25 @@ def main() -> None:
     for member in (7, 8):
         bot.write(member, 0x40, 12)
         print(f"member {member}: colour", bot.read(member, 0x41) * 2 + bot.read(member, 0x44))
+
+
+def inks_and_papers() -> bytes:
+    """A ULA bank that shows each ink, from top to bottom, on each paper, from left to right."""
+    bitmap = bytes([0xF0]) * 6144
+    attributes = bytes(row // 3 + 8 * (column // 4) for row in range(24) for column in range(32))
+    return (bitmap + attributes).ljust(narephon.BANK, b"\0")
+
+
+def main() -> None:
+    bot = Bot()
+    keep_apart(bot)
+    for first in (0, 16):  # the inks, and the papers with the border
+        bot.write(8, 0x40, first)
+        for colour in COLOURS:
+            bot.write(8, 0x41, colour)
+    file = Path(sys.argv[1] if len(sys.argv) > 1 else "preview.png")
+    file.write_bytes(bot.preview(8, inks_and_papers(), bytes(narephon.BANK)))
+    print(f"member 8: preview in {file}")
 
 
 if __name__ == "__main__":
