@@ -1,12 +1,14 @@
-"""The bot, run as a reader runs it."""
+"""The bot and the README's example, run as a reader runs them."""
 
 from __future__ import annotations
 
+import re
 import tempfile
 import unittest
 from pathlib import Path
 
-from support import LIBRARY, PYTHON, Case, environment_of, pixels, python
+import narephon
+from support import LIBRARY, PYTHON, Case, environment_of, pixels, python, sample
 
 BOT = str(PYTHON / "examples" / "bot.py")
 
@@ -38,6 +40,15 @@ class Examples(Case):
         self.assertEqual(rows[64 + 2 * 160][575], 0xB5B5B5)
         self.bot("other.png")
         self.assertEqual((self.folder / "other.png").read_bytes(), (self.folder / "preview.png").read_bytes())
+
+    def test_the_readme(self) -> None:
+        code = re.search(r"```python\n(.*?)```", (PYTHON / "README.md").read_text(encoding="utf-8"), re.DOTALL)
+        assert code is not None
+        for name, data in zip(("record", "ula", "tile"), sample()):
+            (self.folder / name).write_bytes(data)
+        run = python(self.folder, "-W", "ignore", "-c", code[1], **self.environment)
+        self.assertEqual((run.returncode, run.stderr), (0, ""))
+        self.assertEqual((self.folder / "preview.png").read_bytes(), narephon.preview_png(*sample()))
 
 
 if __name__ == "__main__":
