@@ -39,13 +39,13 @@ def _source() -> _Source:
     named = os.environ.get("NAREPHON_LIBRARY")
     if named:
         return _Source(Path(os.path.abspath(named)),
-                       "NAREPHON_LIBRARY names it: name a libnarephon.so that bindings/build made, or unset it")
+                       "set NAREPHON_LIBRARY, which names it, to a libnarephon.so that bindings/build made, or unset it")
     package = Path(__file__).resolve().parent
     inside = package / _NAME
     repository = package.parent.parent.parent
     if os.path.isfile(inside) or not os.path.isfile(repository / "bindings" / "build"):
         return _Source(inside, "run bindings/build and then `pip install ./bindings/python` in the Narephon "
-                               "repository, or let NAREPHON_LIBRARY name a libnarephon.so")
+                               "repository, or set NAREPHON_LIBRARY to a libnarephon.so")
     return _Source(repository / "target" / "bindings" / _NAME, f"run bindings/build in {repository}")
 
 
@@ -53,7 +53,7 @@ def _opened(source: _Source) -> ctypes.CDLL:
     """The library, or ImportError where it is missing or no library of this machine."""
     path = str(source.path)
     if not os.path.isfile(path):
-        raise ImportError(f"the library {path} is missing; {source.remedy}", name="narephon", path=path)
+        raise ImportError(f"there is no library file {path}; {source.remedy}", name="narephon", path=path)
     try:
         return ctypes.CDLL(path)
     except OSError as error:

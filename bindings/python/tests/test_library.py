@@ -11,8 +11,8 @@ from support import LIBRARY, NAME, Case, checkout, environment_of, python
 
 USED = "import narephon; print(narephon._narephon._name)"
 INSTALL = ("run bindings/build and then `pip install ./bindings/python` in the Narephon repository, "
-           "or let NAREPHON_LIBRARY name a libnarephon.so")
-NAMED = "NAREPHON_LIBRARY names it: name a libnarephon.so that bindings/build made, or unset it"
+           "or set NAREPHON_LIBRARY to a libnarephon.so")
+NAMED = "set NAREPHON_LIBRARY, which names it, to a libnarephon.so that bindings/build made, or unset it"
 
 
 class Finding(Case):
@@ -62,13 +62,13 @@ class Finding(Case):
 
     def test_a_missing_library(self) -> None:
         self.made.unlink()
-        self.fails(self.package, f"the library {self.made} is missing;", self.build)
+        self.fails(self.package, f"there is no library file {self.made};", self.build)
         site = self.installed()
-        self.fails(site, f"the library {site / 'narephon' / NAME} is missing;", INSTALL)
+        self.fails(site, f"there is no library file {site / 'narephon' / NAME};", INSTALL)
 
     def test_a_wrong_name(self) -> None:
         for path in (self.folder / "nowhere.so", self.folder):
-            self.fails(self.package, f"the library {path} is missing;", NAMED, str(path))
+            self.fails(self.package, f"there is no library file {path};", NAMED, str(path))
 
     def test_a_file_that_is_no_library(self) -> None:
         self.made.write_bytes(b"")
