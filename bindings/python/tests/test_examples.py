@@ -46,7 +46,7 @@ class Examples(Case):
         assert code is not None
         for name, data in zip(("record", "ula", "tile"), sample()):
             (self.folder / name).write_bytes(data)
-        run = python(self.folder, "-W", "ignore", "-c", code[1], **self.environment)
+        run = python(self.folder, "-c", code[1], **self.environment)
         self.assertEqual((run.returncode, run.stderr), (0, ""))
         self.assertEqual((self.folder / "preview.png").read_bytes(), narephon.preview_png(*sample()))
 
