@@ -71,11 +71,11 @@ class Packing(Case):
         self.assertEqual(narephon.fewest(bytes(40960)), 1)
 
     def test_fewest_is_what_a_packing_counts(self) -> None:
-        # The eight rows of a cell in four bytes each: pixel 1 in one corner and pixel 2 somewhere in the top row.
-        picture = b"".join([bytes([0x10 + 2 * (column % 2), 0, column % 3, 0]) for column in range(40)])
-        picture = (picture + bytes(7 * 160)) * 32
-        self.assertEqual(narephon.fewest(picture), narephon.pack(picture).count)
-        self.assertGreater(narephon.fewest(picture), 1)
+        # Six cells that differ in their top row alone: pixel 1 at its left end and none at its right, so no turn makes
+        # one into another.
+        tops = b"".join([bytes([0x10 + 2 * (column % 2), 0, column % 3, 0]) for column in range(40)])
+        picture = (tops + bytes(7 * 160)) * 32
+        self.assertEqual((narephon.fewest(picture), narephon.pack(picture).count), (6, 6))
 
     def test_refusals(self) -> None:
         self.refused(Reply.TOO_MANY_TILES, narephon.pack, bytes(40960), 0, 0)
