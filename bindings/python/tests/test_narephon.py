@@ -140,8 +140,12 @@ class Header(Case):
         self.header = (REPOSITORY / "bindings" / "c" / "narephon.h").read_text(encoding="utf-8")
 
     def test_the_replies(self) -> None:
-        stated = re.findall(r"^    NAREPHON_(\w+) = (\d+)", self.header, re.MULTILINE)
-        self.assertEqual([(reply.name, str(int(reply))) for reply in Reply], stated)
+        stated = re.findall(r"^    NAREPHON_(\w+) = (\d+),? +/\* (.*) \*/$", self.header, re.MULTILINE)
+        self.assertEqual([(reply.name, str(int(reply)), reply.sentence) for reply in Reply], stated)
+
+    def test_the_version(self) -> None:
+        stated = re.findall(r'^#define NAREPHON_VERSION "(.*)"$', self.header, re.MULTILINE)
+        self.assertEqual(stated, [narephon.__version__])
 
     def test_the_lengths(self) -> None:
         stated = re.findall(r"^#define NAREPHON_(RECORD|BANK|DOTS|PICTURE|MAP|DEFINITIONS) (\d+)$", self.header,
@@ -151,8 +155,10 @@ class Header(Case):
             self.assertEqual(getattr(narephon, name), int(length), name)
 
     def test_the_calls(self) -> None:
-        for name in re.findall(r"^uint8_t narephon_(\w+)\(", self.header, re.MULTILINE):
-            self.assertTrue(getattr(narephon, name).__doc__, name)
+        stated = re.findall(r"^uint8_t (narephon_\w+)\(", self.header, re.MULTILINE)
+        self.assertEqual(sorted(stated), sorted(narephon._library._SIGNATURES))
+        for name in stated:
+            self.assertTrue(getattr(narephon, name[len("narephon_"):]).__doc__, name)
 
 
 if __name__ == "__main__":

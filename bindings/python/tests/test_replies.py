@@ -1,4 +1,4 @@
-"""Every reply has its number and sentence; one that the wrapper does not know is a reply too."""
+"""What a refusal prints; a reply that the wrapper does not know is a reply too. test_narephon has the table."""
 
 from __future__ import annotations
 
@@ -10,30 +10,10 @@ import narephon
 from narephon import Refused, Reply
 from support import Case
 
-SENTENCES = (
-    "done",
-    "the line is above 255",
-    "a bank is not 16,384 bytes long",
-    "another buffer has the wrong length",
-    "the state is not lawful",
-    "the ULA is on, LoRes is off, and port $FF gives no mode",
-    "LoRes and the tilemap are both on",
-    "ULANext and ULAplus are both on",
-    "the tilemap is on and its X offset is past its width",
-    "there is no such register or port, or it cannot be used that way",
-    "the value is out of its bounds",
-    "no map naming at most the number allowed draws the picture",
-    "the number allowed is above 256, or the palette offset above 15",
-    "the bytes are not a record of a lawful state",
-)
 UNKNOWN = "a reply that this wrapper does not know: the library is newer than it"
 
 
 class Replies(Case):
-    def test_sentences(self) -> None:
-        self.assertEqual([reply.sentence for reply in Reply], list(SENTENCES))
-        self.assertEqual([int(reply) for reply in Reply], list(range(14)))
-
     def test_what_a_refusal_prints(self) -> None:
         with self.assertRaises(Refused) as caught:
             narephon.write_register(narephon.reset(), 0x42, 5)
