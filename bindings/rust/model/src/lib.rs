@@ -1,9 +1,10 @@
 //! A plain model of a ZX Spectrum Next line drawer: register file, one line
 //! of 640 dots, stored record and tile packer.
 //!
-//! The comments quote document 01, "The line drawer's exact rules". Every rule
-//! is worked out for one dot, one cell or one register at a time; nothing here
-//! is written for speed.
+//! The comments quote document 01, "The line drawer's exact rules", from which
+//! alone this was written; docs/RULES.md has the same rules by number. Every
+//! rule is worked out for one dot, one cell or one register at a time; nothing
+//! here is written for speed.
 
 pub mod colour;
 pub mod drawing;
