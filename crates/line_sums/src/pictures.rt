@@ -1,4 +1,6 @@
-// A record and a bank by name, and the sums of the 256 lines that they draw.
+// A record and two banks by name, and the sums of the 256 lines that they draw.
+ghost use Prim.Native.Nat.{_≤_};
+ghost use lib.ListN.{length};
 use crate::adler::line_sum;
 use host::files::Read;
 use host::files::read_file;
@@ -26,33 +28,45 @@ pub fn print_lines(ula: &[u8], tile: &[u8], s: State) {
     }
 }
 
-fn print_case(record: &[u8], bank: &[u8]) {
+fn print_case(record: &[u8], ula: &[u8], tile: &[u8]) {
     let read = record::read_record(record);
     let r = read.reply;
     let n = reply::number(r);
     if n == 0 {
         let s = read.state;
-        print_lines(bank, bank, s);
+        print_lines(ula, tile, s);
     } else {
         report::row(b"record refused", n as u64);
     }
 }
 
-fn draw_from(record: &[u8], bank_path: &[u8]) {
-    let mut bank = [0u8; 16385];
-    match read_file(bank_path, &mut bank) {
-        Read::Bytes(n) => print_case(record, &bank[..n]),
-        Read::Missing => report::word(b"no bank\n"),
+fn print_names(record: &[u8], ula: &[u8], tile: &[u8]) {
+    report::word(record);
+    report::word(b" ");
+    report::word(ula);
+    report::word(b" ");
+    report::word(tile);
+    report::word(b"\n");
+}
+
+// How many bytes of a file are in the buffer: none of one that cannot be opened, which is then refused as too short.
+fn load(path: &[u8], buffer: &mut [u8]) -> usize
+    ensures { λ r. ⌜ r ≤ length (now (buffer .exit)) ⌝ }
+{
+    match read_file(path, buffer) {
+        Read::Bytes(n) => n,
+        Read::Missing => 0,
     }
 }
 
-// The case that a record and a bank, which serves as both, make; each buffer is a byte longer than its file must be.
-pub fn draw_case(record_path: &[u8], bank_path: &[u8]) {
-    report::word(record_path);
-    report::word(b"\n");
+// The case that a record, a ULA bank and a tile bank make; each buffer is a byte longer than its file must be.
+pub fn draw_case(record_path: &[u8], ula_path: &[u8], tile_path: &[u8]) {
+    print_names(record_path, ula_path, tile_path);
     let mut record = [0u8; 2151];
-    match read_file(record_path, &mut record) {
-        Read::Bytes(n) => draw_from(&record[..n], bank_path),
-        Read::Missing => report::word(b"no record\n"),
-    }
+    let mut ula = [0u8; 16385];
+    let mut tile = [0u8; 16385];
+    let r = load(record_path, &mut record);
+    let u = load(ula_path, &mut ula);
+    let t = load(tile_path, &mut tile);
+    print_case(&record[..r], &ula[..u], &tile[..t]);
 }

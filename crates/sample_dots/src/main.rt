@@ -1,9 +1,14 @@
 // Draws what the outside cases do not reach: the stored sums are those of an independent implementation of document 01.
 use line_sums::draw_case;
 
-// A record over the one bank.
+// A record over one bank, which serves as both.
 fn draw(record: &[u8]) {
-    draw_case(record, b"bank");
+    draw_case(record, b"bank", b"bank");
+}
+
+// A record over two banks that differ in every byte.
+fn draw_over_two(record: &[u8]) {
+    draw_case(record, b"bank", b"other_bank");
 }
 
 fn draw_offsets() {
@@ -41,9 +46,16 @@ fn draw_rest() {
     draw(b"no_mode.rec");
 }
 
+fn draw_two_banks() {
+    draw_over_two(b"bit_8_ula_on.rec");
+    draw_over_two(b"one_byte_entries.rec");
+    draw_over_two(b"stencil.rec");
+}
+
 fn main() {
     draw_offsets();
     draw_tiles_and_masks();
     draw_lores_and_borders();
     draw_rest();
+    draw_two_banks();
 }

@@ -28,6 +28,9 @@ loop-less c = search needs
 loop-again : tie.Need-loop-again Inv-loop μ-loop
 loop-again c = search needs
 
+draw-over-two-requires : tie.Need-draw-over-two-requires Inv-loop μ-loop
+draw-over-two-requires c κs = search needs
+
 returns : tie.Need-returns Inv-loop μ-loop
 returns c = search needs
 
@@ -43,4 +46,5 @@ main-spec =
     add-i
     loop-less
     loop-again
+    draw-over-two-requires
     returns)
