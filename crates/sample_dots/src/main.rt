@@ -1,4 +1,5 @@
-// Draws what the outside cases do not reach: the stored sums are those of an independent implementation of document 01.
+// Draws what the outside cases do not reach: the stored sums are those of an independent implementation of document 01. README.md has
+// what each record shows.
 use line_sums::draw_case;
 
 // A record over one bank, which serves as both.
@@ -32,6 +33,8 @@ fn draw_tiles_and_masks() {
 fn draw_lores_and_borders() {
     draw(b"lores_plus.rec");
     draw(b"lores_clip.rec");
+    draw(b"lores_timex_6.rec");
+    draw(b"lores_mask_255.rec");
     draw(b"border_6_plain.rec");
     draw(b"border_6_next.rec");
     draw(b"border_6_plus.rec");
@@ -52,10 +55,17 @@ fn draw_two_banks() {
     draw_over_two(b"stencil.rec");
 }
 
+fn draw_clips() {
+    draw(b"ula_clip_crossed.rec");
+    draw_over_two(b"tile_clip_80.rec");
+    draw_over_two(b"tile_clip_crossed.rec");
+}
+
 fn main() {
     draw_offsets();
     draw_tiles_and_masks();
     draw_lores_and_borders();
     draw_rest();
     draw_two_banks();
+    draw_clips();
 }
