@@ -22,8 +22,8 @@ unfoldable pub afterWrites : List ℕ → ℕ → State
 afterWrites ws zero = plainState
 afterWrites ws (suc n) = entryWritten (afterWrites ws n) (getD ws (n * 3) 0) (getD ws (n * 3 + 1) 0) (getD ws (n * 3 + 2) 0)
 
--- the plain state with a border
-unfoldable pub borderState : ℕ → State
-borderState b =
-    let p = plainState .ports in
-    withPorts plainState (record { border = b; timex = p .timex; select = p .select; plus = p .plus })
+-- a state with a border
+abbrev pub borderState : State → ℕ → State
+borderState s b =
+    let p = s .ports in
+    withPorts s (record { border = b; timex = p .timex; select = p .select; plus = p .plus })

@@ -30,19 +30,24 @@ pub fn ask(label: &[u8], y: usize, writes: &[u8]) {
 
 // Line y of the plain state with a border.
 pub fn ask_bordered(label: &[u8], y: usize, border: u8) {
-    draw(label, y, states::bordered(border));
+    draw(label, y, states::bordered(states::plain(), border));
 }
 
-// Line 0 of the plain state with a border, and buffers of these lengths, each at most one past the right one.
-pub fn ask_lengths(label: &[u8], ula: usize, tile: usize, width: usize, border: u8)
+// Line 0 of the plain state after writes, with a border that is not lawful.
+pub fn ask_unlawful(label: &[u8], writes: &[u8]) {
+    draw(label, 0, states::bordered(states::after(writes), 8));
+}
+
+// Line y of the plain state with a border, and buffers of these lengths, each at most one past the right one.
+pub fn ask_lengths(label: &[u8], y: usize, ula: usize, tile: usize, width: usize, border: u8)
     requires { ⌜ (ula ≤ 16385) × (tile ≤ 16385) × (width ≤ 641) ⌝ }
 {
     let bank = [0u8; 16385];
     let other = [0u8; 16385];
     let mut dots = [65535u16; 641];
-    let s = states::bordered(border);
+    let s = states::bordered(states::plain(), border);
     let r = line::draw(
-        LineNumber(0),
+        LineNumber(y),
         &bank[..ula],
         &other[..tile],
         s,

@@ -7,6 +7,7 @@ mod states;
 use asked::ask;
 use asked::ask_bordered;
 use asked::ask_lengths;
+use asked::ask_unlawful;
 use host::report;
 
 fn print_samples() {
@@ -18,9 +19,9 @@ fn print_samples() {
 }
 
 fn print_lengths() {
-    ask_lengths(b"ULA bank 16383", 16383, 16384, 640, 0);
-    ask_lengths(b"tile bank 16385", 16384, 16385, 640, 0);
-    ask_lengths(b"639 dots", 16384, 16384, 639, 0);
+    ask_lengths(b"ULA bank 16383", 0, 16383, 16384, 640, 0);
+    ask_lengths(b"tile bank 16385", 0, 16384, 16385, 640, 0);
+    ask_lengths(b"639 dots", 0, 16384, 16384, 639, 0);
     ask_bordered(b"not lawful", 0, 8);
 }
 
@@ -53,9 +54,20 @@ fn print_pairs() {
 }
 
 fn print_early_order() {
-    ask_lengths(b"bank before line buffer", 0, 16384, 0, 0);
-    ask_lengths(b"line buffer before state", 16384, 16384, 641, 8);
+    ask_lengths(b"line before bank", 256, 16383, 16384, 640, 0);
+    ask_lengths(b"line before line buffer", 256, 16384, 16384, 639, 0);
     ask_bordered(b"line before state", 256, 8);
+    ask_lengths(b"bank before line buffer", 0, 0, 16384, 0, 0);
+    ask_lengths(b"bank before state", 0, 16384, 16385, 640, 8);
+    ask_lengths(b"line buffer before state", 0, 16384, 16384, 641, 8);
+    ask(b"1 before 6", 256, b"\x00\x15\x80\x00\x6B\x80");
+}
+
+fn print_unlawful_order() {
+    ask_unlawful(b"4 before 6", b"\x00\x15\x80\x00\x6B\x80");
+    ask_unlawful(b"4 before 7", b"\x00\x43\x01\xBF\x3B\x40\xFF\x3B\x01");
+    ask_unlawful(b"4 before 5", b"\x00\x08\x04\x00\xFF\x07");
+    ask_unlawful(b"4 before 8", b"\x00\x6B\x80\x00\x2F\x03");
 }
 
 fn print_late_order() {
@@ -64,10 +76,16 @@ fn print_late_order() {
         0,
         b"\x00\x15\x80\x00\x6B\x80\x00\x43\x01\xBF\x3B\x40\xFF\x3B\x01",
     );
+    ask(b"6 before 8", 0, b"\x00\x15\x80\x00\x6B\x80\x00\x2F\x03");
     ask(
         b"7 before 5",
         0,
         b"\x00\x08\x04\x00\xFF\x07\x00\x43\x01\xBF\x3B\x40\xFF\x3B\x01",
+    );
+    ask(
+        b"7 before 8",
+        0,
+        b"\x00\x43\x01\xBF\x3B\x40\xFF\x3B\x01\x00\x6B\x80\x00\x2F\x03",
     );
     ask(
         b"5 before 8",
@@ -82,5 +100,6 @@ fn main() {
     print_modes();
     print_pairs();
     print_early_order();
+    print_unlawful_order();
     print_late_order();
 }

@@ -10,7 +10,7 @@ use reply::number;
 use state::State;
 
 // Index 16 is what an empty screen and its border show.
-fn plain() -> State
+pub fn plain() -> State
     ensures { λ r. ⌜ r ≡ plainState ⌝ }
 {
     let a = registers::write_register(state::reset(), 0x40, 16);
@@ -46,13 +46,13 @@ pub fn after(writes: &[u8]) -> State
     s
 }
 
-// The plain state with a border, which from 8 on is not lawful.
-pub fn bordered(border: u8) -> State
-    ensures { λ r. ⌜ r ≡ borderState border ⌝ }
+// A state with a border, which from 8 on is not lawful.
+pub fn bordered(s: State, border: u8) -> State
+    ensures { λ r. ⌜ r ≡ borderState s border ⌝ }
 {
-    let mut s = plain();
-    s.ports.border = border;
-    s
+    let mut t = s;
+    t.ports.border = border;
+    t
 }
 
 // What a write of the ink mask answers.

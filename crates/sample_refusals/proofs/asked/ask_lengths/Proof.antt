@@ -5,6 +5,9 @@ use borrow.Author.Needs.{needs}
 use Rattle.sample_refusals.proofs.asked.ask_lengths.Statement.{statement}
 use Rattle.sample_refusals.proofs.asked.ask_lengths.Tie as tie
 
+plain-requires : tie.Need-plain-requires
+plain-requires c κs = search needs
+
 bordered-requires : tie.Need-bordered-requires
 bordered-requires c κs = search needs
 
@@ -48,6 +51,7 @@ pub ask-lengths-spec : {M : Type 1} → statement M
 ask-lengths-spec =
     tie.close
     (tie.spec
+    plain-requires
     bordered-requires
     array-share-prefix-bank
     slice-aggregate-draw
