@@ -1,5 +1,6 @@
 // Whole files by name. No contract can say what a file holds.
 ghost use lib.ListN.{length};
+ghost use Rattle.io.specs.Counts.{Counts};
 ghost use Rattle.host.specs.Read.{within};
 
 // How many bytes of a file are in the buffer, or that it cannot be opened.
@@ -20,4 +21,15 @@ pub fn read_file(path: &[u8], buffer: &mut [u8]) -> Read
     let n = io::read_full(fd, buffer);
     libc::close(fd);
     Read::Bytes(n)
+}
+
+// How many bytes of a file are in the buffer, 0 where it cannot be opened.
+pub fn bytes_of(path: &[u8], buffer: &mut [u8]) -> usize
+    ensures { λ r. ⌜ Counts r (now (buffer .exit)) ⌝ }
+{
+    let read = read_file(path, buffer);
+    match read {
+        Read::Bytes(n) => n,
+        Read::Missing => 0,
+    }
 }

@@ -1,9 +1,6 @@
 // A record and two banks by name, and the sums of the 256 lines that they draw.
-ghost use Prim.Native.Nat.{_≤_};
-ghost use lib.ListN.{length};
 use crate::adler::line_sum;
-use host::files::Read;
-use host::files::read_file;
+use host::files::bytes_of;
 use host::report;
 use state::State;
 use surface::LineNumber;
@@ -49,24 +46,15 @@ fn print_names(record: &[u8], ula: &[u8], tile: &[u8]) {
     report::word(b"\n");
 }
 
-// How many bytes of a file are in the buffer: none of one that cannot be opened, which is then refused as too short.
-fn load(path: &[u8], buffer: &mut [u8]) -> usize
-    ensures { λ r. ⌜ r ≤ length (now (buffer .exit)) ⌝ }
-{
-    match read_file(path, buffer) {
-        Read::Bytes(n) => n,
-        Read::Missing => 0,
-    }
-}
-
-// The case that a record, a ULA bank and a tile bank make; each buffer is a byte longer than its file must be.
+// The case that a record, a ULA bank and a tile bank make; each buffer is a byte longer than its file must be, and a file that is missing
+// is refused as too short.
 pub fn draw_case(record_path: &[u8], ula_path: &[u8], tile_path: &[u8]) {
     print_names(record_path, ula_path, tile_path);
     let mut record = [0u8; 2151];
     let mut ula = [0u8; 16385];
     let mut tile = [0u8; 16385];
-    let r = load(record_path, &mut record);
-    let u = load(ula_path, &mut ula);
-    let t = load(tile_path, &mut tile);
+    let r = bytes_of(record_path, &mut record);
+    let u = bytes_of(ula_path, &mut ula);
+    let t = bytes_of(tile_path, &mut tile);
     print_case(&record[..r], &ula[..u], &tile[..t]);
 }

@@ -1,26 +1,12 @@
 // Four pictures packed and drawn by the tilemap's rule at every pixel, and the sheets that rgbgfx packed for the same
 // pictures drawn likewise. rgbgfx knows mirrors and no rotation.
-ghost use Rattle.io.specs.Counts.{Counts};
-
 mod drawn;
 mod named;
 
 use drawn::differ;
-use host::files::Read;
-use host::files::read_file;
+use host::files::bytes_of;
 use host::report;
 use named::named;
-
-// How many bytes of a file came, 0 where there is none.
-fn bytes_of(path: &[u8], buffer: &mut [u8]) -> usize
-    ensures { λ r. ⌜ Counts r (now (buffer .exit)) ⌝ }
-{
-    let read = read_file(path, buffer);
-    match read {
-        Read::Bytes(n) => n,
-        Read::Missing => 0,
-    }
-}
 
 fn print(label: &[u8], tiles: u64, wrong: u64) {
     report::word(label);

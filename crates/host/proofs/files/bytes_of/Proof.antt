@@ -1,13 +1,13 @@
 -- The bytes told by `read_file` are within the buffer.
 use lib.ListN.{length}
 use Prim.Native.Nat.{_≤_}
 use Rattle.host.specs.declared.files.Read.{Read}
 use Rattle.host.specs.Read.{within}
 use lib.Seq.{length-take-le}
 use mathlib.Core.Path.{subst, sym}
 use borrow.Author.Needs.{needs}
-use Rattle.sample_sheets.proofs.bytes_of.Statement.{statement}
-use Rattle.sample_sheets.proofs.bytes_of.Tie as tie
+use Rattle.host.proofs.files.bytes_of.Statement.{statement}
+use Rattle.host.proofs.files.bytes_of.Tie as tie
 
 read-file-requires : tie.Need-read-file-requires
 read-file-requires c κs = search needs
