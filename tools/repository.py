@@ -1,5 +1,8 @@
-"""What the repository holds, as tools/claims and tools/rules read it."""
+"""What the tools of this folder share: the repository's crates, definitions and rules as they are read, the command line, and a run of rt."""
 import re
+import shutil
+import subprocess
+import sys
 from pathlib import Path
 
 ROOT = Path(__file__).resolve().parent.parent
@@ -55,3 +58,49 @@ def cited(text):
     for first, last in re.findall(rf"({RULE}) to ({RULE})", text):
         numbers.update(span(first, last))
     return numbers
+
+
+def stop(text):
+    """Ends with status 2 and what is wrong."""
+    print(text, file=sys.stderr)
+    sys.exit(2)
+
+
+def words(usage, least):
+    """The words of the command line. Prints the usage where that is asked for, or where there are fewer words than `least`."""
+    given = sys.argv[1:]
+    if "-h" in given or "--help" in given:
+        print(usage.strip())
+        sys.exit(0)
+    if len(given) < least or any(word.startswith("-") for word in given):
+        stop(usage.strip())
+    return given
+
+
+def dependencies():
+    """For each crate of crates.txt, in its order, the crates of the repository that it names."""
+    listed = {}
+    for line in read(ROOT / "crates.txt").split("\n"):
+        name, colon, below = line.split("#")[0].partition(":")
+        if colon:
+            listed[name.strip()] = below.split()
+    return {name: [d for d in below if d in listed] for name, below in listed.items()}
+
+
+def see_crate(name):
+    """Stops where crates.txt has no such crate."""
+    if name not in dependencies():
+        stop(f"crates.txt has no crate {name}")
+
+
+def rt_dev(crate, *more):
+    """The lines that `rt dev CRATE` prints, and its status. Stops where a crate below it is not proved."""
+    if not shutil.which("rt"):
+        stop("rt, the tool of the Rattle toolchain, is not on the path")
+    ran = subprocess.run(["rt", "dev", crate, *more], cwd=ROOT, stdout=subprocess.PIPE, stderr=subprocess.STDOUT)
+    lines = ran.stdout.decode("utf-8", "replace").split("\n")
+    for line in lines:
+        if line.startswith("rt: FAILED:"):
+            below = line.split(":", 2)[2].strip()
+            stop(f"{crate} stands on crates that are not proved: {below}; prove those first (`rt check {below.split()[0]}`)")
+    return lines, ran.returncode

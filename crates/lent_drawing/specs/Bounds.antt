@@ -1,4 +1,4 @@
--- What a lent record has shown once it is judged, and a line whose tile dots are laid; no part of what a drawing is.
+-- What is known of a lent record once it is judged, and a line whose tile dots are laid; no part of what a drawing is.
 use mathlib.Core.Path.{_≡_}
 use mathlib.Core.Bool.{true}
 use mathlib.Core.List.{List}

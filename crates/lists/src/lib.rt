@@ -5,7 +5,7 @@ ghost use mathlib.Core.Path.{_≡_};
 ghost use Prim.Native.Nat.{_<_};
 pub use placing::put;
 
-// A byte as an index. The bound goes into the contract, since a cast's own is lost in callers that hold a whole state.
+// A byte as an index. The bound goes into the contract, since of a byte read from a slice a cast's own is lost.
 pub fn usize_of(x: u8) -> usize
     ensures { λ r. ⌜ (r ≡ x) × (r < 256) ⌝ }
 {

@@ -1,4 +1,4 @@
-// Writing the parts of a packing: an entry of the map, and the definitions. Both ask for what the packing of the cells has shown.
+// Writing the parts of a packing: an entry of the map, and the definitions. Both ask for what the packing of the cells has established.
 mod definitions;
 mod entry;
 

@@ -1,4 +1,4 @@
--- Rules 1.7, 1.8, 8.8, 9.3, 9.11, 9.12 and 10.5: the answer of a packing, and what demand 3 asks of it.
+-- Rules 1.6 to 1.8, 8.5, 8.8, 9.3, 9.11, 9.12, 10.0 and 10.5: the answer of a packing, and what demand 3 asks of it.
 use mathlib.Core.Path.{_≡_}
 use mathlib.Core.List.{List}
 use mathlib.Core.Bool.{cond, _&&_}

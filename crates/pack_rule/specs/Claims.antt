@@ -1,5 +1,5 @@
--- Rule 1.8: demand 3 over the definitions; what an entry and a definition of the packing are, what later sheets can cite, and what a map
--- names.
+-- Rules 1.8 and 8.7: demand 3 over the definitions; what an entry and a definition of the packing are, what later sheets can cite, and
+-- what a map names.
 use mathlib.Core.Path.{_≡_}
 use mathlib.Core.List.{List}
 use mathlib.Core.Logic.{_⊎_}

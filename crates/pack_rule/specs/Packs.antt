@@ -1,4 +1,4 @@
--- Rules 1.2 and 10.9: packing into a lent map and definitions: the answer, what both hold afterwards, and demand 3 of them.
+-- Rules 1.2, 1.6, 1.8, 9.11 and 10.9: packing into a lent map and definitions: the answer, what both hold afterwards, and demand 3 of them.
 use mathlib.Core.Path.{_≡_}
 use mathlib.Core.List.{List}
 use mathlib.Core.Bool.{cond}

@@ -1,5 +1,5 @@
 // The tile packer: the map and the definitions of a picture, and the fewest tiles that draw it. `pack` and `fewest` ask for nothing;
-// the functions of the module ask for what `judge` has shown.
+// the functions of the module ask for what `judge` has established.
 ghost use mathlib.Core.Path.{_≡_};
 ghost use Rattle.pack_rule.specs.Greedy.{packedMap, packedDefs};
 ghost use Rattle.pack_rule.specs.Answer.{judged, answered, packAnswer, Demanded};

@@ -1,5 +1,5 @@
--- Rules 7.1, 7.4 to 7.6, 9.3, 9.4, 9.13, 10.6, 10.7 and 10.9: a record, from its head on, what reading one accepts, and what writing one
--- answers.
+-- Rules 7.1, 7.4 to 7.6, 9.3, 9.4, 9.13, 10.0, 10.6, 10.7 and 10.9: a record, from its head on, what reading one accepts, and what writing
+-- one answers.
 use Prim.Native.Nat.{ℕ, _+_}
 use mathlib.Core.List.{List, _∷_, _++_}
 use mathlib.Core.Bool.{Bool, cond, _&&_}

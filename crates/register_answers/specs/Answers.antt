@@ -1,4 +1,4 @@
--- Rules 9.4, 9.10 and 10.9: what a write and a read answer.
+-- Rules 9.4, 9.10, 10.0 and 10.9: what a write and a read answer.
 use Prim.Native.Nat.{ℕ}
 use mathlib.Core.Bool.{Bool, cond}
 use Rattle.reply.specs.declared.Reply.{Reply}

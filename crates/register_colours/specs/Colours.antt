@@ -1,4 +1,4 @@
--- Rules 3.13, 3.15, 3.17 and 12.4: a colour of the four palettes where $40 and $43 point, and what storing one does.
+-- Rules 3.11, 3.13 to 3.15, 3.17 and 12.4: a colour of the four palettes where $40 and $43 point, and what storing one does.
 use Prim.Native.Nat.{ℕ, _+_, _%_}
 use mathlib.Core.List.{List}
 use mathlib.Core.Bool.{cond}

@@ -1,4 +1,4 @@
--- Rules 3.25 to 3.28: the four ports.
+-- Rules 3.25 to 3.28 and 9.9: the four ports.
 use Prim.Native.Nat.{ℕ, _%_}
 use mathlib.Core.List.{List, [], _∷_}
 use mathlib.Core.Bool.{Bool, cond}

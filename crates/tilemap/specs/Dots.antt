@@ -1,4 +1,4 @@
--- Rules 2.2, 5.1 and 5.9: a tile dot, with transparency and clip.
+-- Rules 2.2, 5.1, 5.9 and 5.10: a tile dot, with transparency and clip.
 use Prim.Native.Nat.{ℕ, _/_, _%_}
 use mathlib.Core.List.{List}
 use mathlib.Core.Bool.{Bool, true, false, cond, not, _||_}

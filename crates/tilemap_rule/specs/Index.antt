@@ -1,4 +1,4 @@
--- Rules 5.3, 5.6 and 5.8: the index at a position (x, y) of the surface, before transparency and clip. This is the one rule: the drawn
+-- Rules 5.3 and 5.6 to 5.8: the index at a position (x, y) of the surface, before transparency and clip. This is the one rule: the drawn
 -- line, the packing and the check of sheets speak of `tileIndex`.
 use Prim.Native.Nat.{ℕ, _+_, _*_, _/_, _%_}
 use mathlib.Core.List.{List}

@@ -1,4 +1,4 @@
--- Rules 3.24 and 5.10: what of the state a line of the tilemap shows.
+-- Rules 3.24, 5.10 and 12.5: what of the state a line of the tilemap shows.
 use Prim.Native.Nat.{ℕ, _+_, _*_}
 use mathlib.Core.List.{List}
 use mathlib.Core.Bool.{Bool, _&&_}

@@ -1,4 +1,4 @@
--- Rules 4.16 to 4.18: the colours of the indices, and the dots.
+-- Rules 4.13 and 4.15 to 4.18: the colours of the indices, and the dots.
 use Prim.Native.Nat.{ℕ}
 use mathlib.Core.List.{List}
 use mathlib.Core.Bool.{Bool, cond}

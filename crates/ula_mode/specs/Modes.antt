@@ -1,4 +1,4 @@
--- Rules 4.1, 4.2 and 12.2: the mode.
+-- Rules 4.1, 4.2, 9.5 and 12.2: the mode.
 use Prim.Native.Nat.{ℕ, _%_}
 use mathlib.Core.Bool.{Bool, true, false, cond}
 use lib.Dec.{eqb}

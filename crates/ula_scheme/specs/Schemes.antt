@@ -1,4 +1,4 @@
--- Rules 4.14 and 4.15: which of the three rules colours a state, and the numbers that it goes by.
+-- Rules 4.13 to 4.17: which of the three rules colours a state, and the numbers that it goes by.
 use Prim.Native.Nat.{ℕ, _/_, _%_}
 use mathlib.Core.Bool.{cond}
 use lib.Dec.{eqb}

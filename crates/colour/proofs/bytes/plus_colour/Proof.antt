@@ -1,4 +1,4 @@
--- `plus_colour` computes its definition on the widened byte.
+-- `plus_colour` computes its definition on the byte as a larger number.
 use borrow.Author.Needs.{needs}
 use Rattle.colour.proofs.bytes.plus_colour.Statement.{statement}
 use Rattle.colour.proofs.bytes.plus_colour.Tie as tie

@@ -1,4 +1,4 @@
--- `widen` chooses by the two blue bits of the widened byte.
+-- `widen` chooses by the two blue bits of the byte.
 use borrow.Author.Tests.{eq-eqb, ne-eqb}
 use Rattle.colour.specs.Bytes.{widened}
 use borrow.Author.Needs.{needs}

@@ -1,4 +1,4 @@
--- `show` chooses by one test, on the widened byte of $14.
+-- `show` chooses by one test, on the byte of $14 as a larger number.
 use borrow.Author.Tests.{eq-eqb, ne-eqb}
 use Rattle.surface.specs.Dots.{shown}
 use borrow.Author.Needs.{needs}

@@ -1,4 +1,4 @@
--- The row of the mode that the place names.
+-- The row of the mode that the view names.
 use Rattle.ula_cell.proofs.Fills.{hires-dots}
 use Rattle.ula_display.proofs.Shows.{shows-lores, shows-hires, shows-pixels}
 use mathlib.Core.Path.{sym, _∙_}
