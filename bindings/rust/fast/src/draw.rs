@@ -15,7 +15,7 @@ const COLOUR: u16 = 0x01FF;
 type Bank = [u8; BANK_LENGTH];
 type Line = [u16; DOTS];
 
-/// Draws one line. A refusal leaves the lent line as it came.
+/// Rules 1.2 and 1.3: draws one line, or refuses and leaves it.
 pub fn draw(line: u32, ula: &[u8], tile: &[u8], state: &State, out: &mut [u16]) -> u8 {
     if line > 255 {
         return 1;
@@ -53,7 +53,7 @@ pub fn draw(line: u32, ula: &[u8], tile: &[u8], state: &State, out: &mut [u16]) 
     0
 }
 
-/// The refusals by the state: 4, 6, 7, 5, 8.
+/// Rule 10.1: the refusals by the state, 4, 6, 7, 5, 8.
 fn refusal(state: &State) -> u8 {
     let lores = state.layers & 0x80 != 0;
     let tilemap = state.tile_control & 0x80 != 0;
@@ -160,7 +160,7 @@ impl Colours<'_> {
         }
     }
 
-    /// The attribute shifted past the mask, 0 under mask 255.
+    /// Rule 4.15: the attribute bits above the mask, 0 under mask 255.
     fn past_mask(&self, attribute: u8) -> u8 {
         (u32::from(attribute) >> self.shift) as u8
     }
@@ -434,7 +434,7 @@ fn double(pixels: &[u16], dots: &mut [u16]) {
     }
 }
 
-/// The AND of both, or the fallback where either is transparent.
+/// Rules 5.11 and 5.13: both dots under the stencil, or the fallback.
 fn stencil(out: &mut Line, tiles: &Line, fallback: u16) {
     for (dot, &tile) in out.iter_mut().zip(tiles) {
         let clear = (*dot | tile) & CLEAR != 0;
@@ -446,7 +446,7 @@ fn stencil(out: &mut Line, tiles: &Line, fallback: u16) {
     }
 }
 
-/// The upper dot unless transparent, then the lower, then the fallback.
+/// Rules 5.12 and 5.13: both dots without the stencil, or the fallback.
 fn compose(out: &mut Line, tiles: &Line, fallback: u16) {
     for (dot, &tile) in out.iter_mut().zip(tiles) {
         let ula = *dot;

@@ -1,6 +1,6 @@
 //! A ZX Spectrum Next line drawer, register write, stored record and tile
 //! packer, written for speed: the state is read once a line, colours are
-//! looked up once a cell.
+//! looked up once a cell. Numbers as 4.7 are those of docs/RULES.md.
 
 mod draw;
 mod pack;
@@ -20,13 +20,13 @@ pub const BANK_LENGTH: usize = 16_384;
 /// The dots of a line.
 pub const DOTS: usize = 640;
 
-/// An eight-bit colour with its ninth bit, the OR of its two blue bits.
+/// Rule 3.11: an eight-bit colour with its ninth bit.
 fn widen(value: u8) -> u16 {
     let wide = u16::from(value);
     wide << 1 | (wide >> 1 | wide) & 1
 }
 
-/// The colour of a ULAplus byte GGGRRRBb; its blue is Bbb.
+/// Rule 4.20: the colour of a ULAplus byte, in bits GGGRRRBb.
 fn plus_colour(value: u8) -> u16 {
     let wide = u16::from(value);
     (wide & 0x1C) << 4 | (wide & 0xE0) >> 2 | (wide & 3) << 1 | wide & 1

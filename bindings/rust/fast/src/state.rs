@@ -124,7 +124,7 @@ pub(crate) fn palette_written(control: u8) -> usize {
     }
 }
 
-/// Does every field keep its bounds?
+/// Rule 3.31: does every field keep its bounds?
 pub fn lawful(state: &State) -> bool {
     let small = state.ula_y < 192
         && solid(state.ink_mask)

@@ -1,15 +1,15 @@
-//! Nine-bit colours RRRGGGBBB, 0 to 511.
+//! Nine-bit colours (2.3), in bits RRRGGGBBB.
 
 use crate::reply::{Reply, DONE, OUT_OF_BOUNDS};
 
-/// "$41: eight-bit colour; the ninth bit is the OR of its two blue bits."
+/// Rule 3.11: an eight-bit colour with its ninth bit.
 pub fn widen(value: u8) -> u16 {
     let upper_blue = (value / 2) % 2;
     let lower_blue = value % 2;
     u16::from(value) * 2 + u16::from(upper_blue | lower_blue)
 }
 
-/// "A ULAplus byte is GGGRRRBb; its blue is Bbb (001), not the OR rule."
+/// Rule 4.20: the colour of a ULAplus byte, in bits GGGRRRBb.
 pub fn plus_colour(value: u8) -> u16 {
     let green = u16::from(value / 32);
     let red = u16::from(value / 4 % 8);
@@ -19,7 +19,7 @@ pub fn plus_colour(value: u8) -> u16 {
     red * 64 + green * 8 + blue
 }
 
-/// "Each three-bit part becomes hmlhmlml (001)."
+/// Rule 6.1: three bits hml as the eight bits hmlhmlml.
 pub fn screen_part(part: u32) -> u32 {
     let h = part / 4 % 2;
     let m = part / 2 % 2;
@@ -27,8 +27,7 @@ pub fn screen_part(part: u32) -> u32 {
     h * 128 + m * 64 + l * 32 + h * 16 + m * 8 + l * 4 + m * 2 + l
 }
 
-/// "value = red × 65,536 + green × 256 + blue"; "Screen value: 10 above 511,
-/// giving 0."
+/// Rules 6.2 and 10.8: the screen value of a colour, refused above 511.
 pub fn screen_value(colour: u32) -> (Reply, u32) {
     if colour > 511 {
         return (OUT_OF_BOUNDS, 0);

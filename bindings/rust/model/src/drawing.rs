@@ -10,7 +10,7 @@ use crate::tilemap::{tile_dot, Layout};
 use crate::ula::{ula_dot, ula_mode, Mode};
 use crate::{BANK_LENGTH, DOTS};
 
-/// Draws one line. A refusal leaves the lent line as it came.
+/// Rules 1.2 and 1.3: draws one line, or refuses and leaves it.
 pub fn draw(line: u32, ula: &[u8], tile: &[u8], state: &State, out: &mut [u16]) -> Reply {
     let reply = refusal(line, ula, tile, state, out);
     if reply != DONE {
@@ -22,7 +22,7 @@ pub fn draw(line: u32, ula: &[u8], tile: &[u8], state: &State, out: &mut [u16]) 
     DONE
 }
 
-/// "Drawing: 1, 2, 3, 4, 6, 7, 5, 8."
+/// Rule 10.1: the refusals of a drawing, in the order 1, 2, 3, 4, 6, 7, 5, 8.
 fn refusal(line: u32, ula: &[u8], tile: &[u8], state: &State, out: &[u16]) -> Reply {
     if line > 255 {
         return LINE_ABOVE_255;
@@ -51,7 +51,7 @@ fn refusal(line: u32, ula: &[u8], tile: &[u8], state: &State, out: &[u16]) -> Re
     DONE
 }
 
-/// "Transparent at the end: the fallback, widened as $41."
+/// Rules 5.11 to 5.13: a dot of the line, the fallback where it is transparent.
 fn dot_colour(line: u32, dot: u32, ula: &[u8], tile: &[u8], state: &State) -> u16 {
     let ula_colour = ula_dot(line, dot, ula, state);
     let tile_dot = tile_dot(line, dot, tile, state);
@@ -59,7 +59,7 @@ fn dot_colour(line: u32, dot: u32, ula: &[u8], tile: &[u8], state: &State) -> u1
     let composed = if stencil {
         stencilled(ula_colour, tile_dot.colour)
     } else if tile_dot.bit_8 {
-        // "the ULA is upper when the entry's bit 8 is set."
+        // 5.12: bit 8 puts the ULA over the tile.
         upper_or_lower(ula_colour, tile_dot.colour)
     } else {
         upper_or_lower(tile_dot.colour, ula_colour)
@@ -67,7 +67,7 @@ fn dot_colour(line: u32, dot: u32, ula: &[u8], tile: &[u8], state: &State) -> u1
     composed.unwrap_or(widen(state.fallback))
 }
 
-/// "stencil with both on, AND of both colours, or transparent if either is."
+/// Rule 5.11: both dots under the stencil.
 fn stencilled(ula: Option<u16>, tile: Option<u16>) -> Option<u16> {
     match (ula, tile) {
         (Some(ula), Some(tile)) => Some(ula & tile),
@@ -75,7 +75,7 @@ fn stencilled(ula: Option<u16>, tile: Option<u16>) -> Option<u16> {
     }
 }
 
-/// "Else the upper dot unless transparent, then the lower".
+/// Rule 5.12: both dots without the stencil.
 fn upper_or_lower(upper: Option<u16>, lower: Option<u16>) -> Option<u16> {
     match upper {
         Some(colour) => Some(colour),

@@ -1,10 +1,14 @@
 //! A plain model of a ZX Spectrum Next line drawer: register file, one line
 //! of 640 dots, stored record and tile packer.
 //!
-//! The comments quote document 01, "The line drawer's exact rules", from which
-//! alone this was written; docs/RULES.md has the same rules by number. Every
-//! rule is worked out for one dot, one cell or one register at a time; nothing
-//! here is written for speed.
+//! It is written from document 01, the scope paper, alone (with the tilemap
+//! page where that paper leaves bits to it) and not from the Rattle code. The
+//! comments cite its rules by the numbers that docs/RULES.md gives them. A
+//! request that comes later extends the model from its paper alone, before the
+//! code is looked at.
+//!
+//! Every rule is worked out for one dot, one cell or one register at a time;
+//! nothing here is written for speed.
 
 pub mod colour;
 pub mod drawing;
@@ -27,8 +31,8 @@ pub use state::{lawful, next_frame, State};
 pub use tilemap::{tile_index, Layout};
 pub use ula::{ula_mode, Mode};
 
-/// "Lent: the ULA bank and the tile bank, 16,384 bytes each."
+/// Rule 2.5: the bytes of a bank.
 pub const BANK_LENGTH: usize = 16_384;
 
-/// "One line [...] as 640 dots."
+/// Rule 2.2: the dots of a line.
 pub const DOTS: usize = 640;

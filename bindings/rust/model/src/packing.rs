@@ -1,16 +1,16 @@
-//! "Packing".
+//! The tile packer: section 8.
 
 use crate::reply::{Reply, ALLOWED_OR_OFFSET, DONE, TOO_MANY_TILES, WRONG_BUFFER};
 use crate::tilemap::{tile_index, turned, Layout};
 use crate::BANK_LENGTH;
 
-/// "The picture is 256 rows of 160 bytes".
+/// Rule 8.1: the bytes of a picture.
 pub const PICTURE_LENGTH: usize = 40_960;
-/// "map 2,560 bytes".
+/// Rule 8.1: the bytes of a map.
 pub const MAP_LENGTH: usize = 2_560;
-/// "definitions 8,192".
+/// Rule 8.1: the bytes of the definitions.
 pub const DEFINITIONS_LENGTH: usize = 8_192;
-/// The cells of a picture, "its 1,280 entries".
+/// Rules 8.2 and 8.5: the cells of a picture, the entries of a map.
 pub const CELLS: usize = 1_280;
 /// Eight bits of tile number.
 pub const MOST_TILES: u32 = 256;
@@ -18,7 +18,7 @@ pub const MOST_TILES: u32 = 256;
 /// The 64 pixels of a cell, row by row.
 pub type Cell = [[u8; 8]; 8];
 
-/// Picture pixel (x, y): "256 rows of 160 bytes, high half left".
+/// Rule 8.1: pixel (x, y) of a picture.
 pub fn picture_pixel(picture: &[u8], x: usize, y: usize) -> u8 {
     let byte = picture[y * 160 + x / 2];
     if x % 2 == 1 {
@@ -28,7 +28,7 @@ pub fn picture_pixel(picture: &[u8], x: usize, y: usize) -> u8 {
     }
 }
 
-/// "Cells are taken row by row": cell 0 to 1,279 of a picture.
+/// Rule 8.2: cell 0 to 1,279 of a picture, counted along its rows.
 pub fn picture_cell(picture: &[u8], number: usize) -> Cell {
     let left = number % 40 * 8;
     let top = number / 40 * 8;
@@ -55,8 +55,8 @@ pub fn turn_draws(definition: &Cell, turn: u8, cell: &Cell) -> bool {
     })
 }
 
-/// "the smallest 4 × x mirror + 2 × y mirror + rotate that draws the cell",
-/// none where no turn does.
+/// Rule 8.3: the least turn by which a definition draws the cell, none where no
+/// turn does.
 pub fn smallest_turn(definition: &Cell, cell: &Cell) -> Option<u8> {
     (0..8).find(|&turn| turn_draws(definition, turn, cell))
 }
@@ -86,8 +86,7 @@ fn pack_cells(picture: &[u8], allowed: u32) -> Option<Packed> {
         let entry = match find(&definitions, &cell) {
             Some(entry) => entry,
             None => {
-                // "A cell that no earlier definition can be turned into
-                // becomes the next definition, upright."
+                // 8.2: the cell is itself the next definition.
                 definitions.push(cell);
                 (definitions.len() - 1, 0)
             }
@@ -103,7 +102,7 @@ fn pack_cells(picture: &[u8], allowed: u32) -> Option<Packed> {
     })
 }
 
-/// "Definition: 32 bytes, 4 a row, high half left."
+/// Rule 5.6: the 32 bytes of a definition.
 fn definition_bytes(definition: &Cell) -> Vec<u8> {
     let mut bytes = Vec::new();
     for row in definition {
@@ -114,12 +113,13 @@ fn definition_bytes(definition: &Cell) -> Vec<u8> {
     bytes
 }
 
-/// "An entry has the offset given, bit 8 clear", two bytes low first.
+/// Rules 5.3 and 8.3: the two bytes of an entry.
 fn entry_bytes(number: usize, turn: u8, offset: u32) -> [u8; 2] {
     [number as u8, offset as u8 * 16 + turn * 2]
 }
 
-/// "Packing: 3, 12, 11." "A refused packing counts 0."
+/// Rule 10.5: packs a picture, or refuses by 3, 12, 11 in this order and counts
+/// 0.
 pub fn pack(
     picture: &[u8],
     allowed: u32,
@@ -142,7 +142,7 @@ pub fn pack(
     for (cell, &(number, turn)) in packed.entries.iter().enumerate() {
         map[cell * 2..cell * 2 + 2].copy_from_slice(&entry_bytes(number, turn, offset));
     }
-    // "Unused definitions are 0."
+    // 8.4: what no definition fills is 0.
     definitions.fill(0);
     for (number, tile) in packed.definitions.iter().enumerate() {
         definitions[number * 32..number * 32 + 32].copy_from_slice(&definition_bytes(tile));
@@ -150,17 +150,15 @@ pub fn pack(
     (DONE, tiles_named(map))
 }
 
-/// "A map names as many tiles as there are different tile numbers in its 1,280
-/// entries (without bit 8, as the ULA is on)".
+/// Rule 8.5: how many tiles a map names, by the low bytes of its entries.
 pub fn tiles_named(map: &[u8]) -> u32 {
     (0..=255u8)
         .filter(|&number| map.iter().step_by(2).any(|&low| low == number))
         .count() as u32
 }
 
-/// "The fewest is the least count of different tile numbers among all that
-/// draw it": one for each cell that no earlier cell can be turned into. Where
-/// that is more than 256, no map draws the picture: 11.
+/// Rule 8.8: the fewest tiles of a picture, one for each cell that no earlier
+/// cell can be turned into. More than 256 cannot be named: 9.11.
 pub fn fewest(picture: &[u8]) -> (Reply, u32) {
     if picture.len() != PICTURE_LENGTH {
         return (WRONG_BUFFER, 0);
@@ -178,15 +176,15 @@ pub fn fewest(picture: &[u8]) -> (Reply, u32) {
     (DONE, count)
 }
 
-/// How many of the 81,920 pixels a map and its definitions draw otherwise than
-/// palette offset × 16 + the picture's pixel, with the map at the start of the
-/// bank and the definitions at $2000. Buffers of another length draw none.
+/// Rule 8.6: how many of the 81,920 pixels a map and its definitions draw
+/// otherwise than palette offset × 16 + the picture's pixel, with the map at
+/// the start of the bank and the definitions at $2000. Buffers of another
+/// length draw none.
 pub fn draws(map: &[u8], definitions: &[u8], offset: u32, picture: &[u8]) -> u32 {
     draws_at(map, definitions, offset, picture, 0, 0x2000)
 }
 
-/// The same with map and definitions "set in a bank at any multiples of 256,
-/// sharing no byte and not running past 16,383".
+/// The same with map and definitions at places that 8.7 allows.
 pub fn draws_at(
     map: &[u8],
     definitions: &[u8],
@@ -218,7 +216,7 @@ pub fn draws_at(
     different
 }
 
-/// "in 40 columns, two bytes an entry, X offset and $31 both 0, the ULA on".
+/// Rule 8.7: how a packing is set for drawing.
 fn packed_layout(map_base: u32, definition_base: u32) -> Layout {
     Layout {
         columns: 40,

@@ -1,18 +1,18 @@
-//! "The stored record".
+//! The stored record: section 7.
 
 use crate::reply::{Reply, DONE, NOT_A_RECORD, NOT_LAWFUL, WRONG_BUFFER};
 use crate::state::{lawful, State};
 
-/// "2,150 bytes in all."
+/// Rule 7.4: the bytes of a record.
 pub const RECORD_LENGTH: usize = 2_150;
 
-/// "2,148, the number of bytes following."
+/// Rule 7.1: what the first two bytes say.
 pub const FOLLOWING: u16 = 2_148;
 
-/// "Version 1."
+/// Rule 7.1: the version.
 pub const VERSION: u8 = 1;
 
-/// "Record writing: 3, 4."
+/// Rules 7.6 and 10.6: writes a record, or refuses by 3, 4 in this order.
 pub fn write_record(state: &State, target: &mut [u8]) -> Reply {
     if target.len() != RECORD_LENGTH {
         return WRONG_BUFFER;
@@ -24,7 +24,7 @@ pub fn write_record(state: &State, target: &mut [u8]) -> Reply {
     DONE
 }
 
-/// The bytes of the record, in the order of the paper.
+/// Rules 7.1 to 7.3: the bytes of the record in their order.
 fn record_bytes(state: &State) -> Vec<u8> {
     let mut bytes = Vec::new();
     bytes.extend(FOLLOWING.to_be_bytes());
@@ -44,15 +44,14 @@ fn record_bytes(state: &State) -> Vec<u8> {
         state.frame,
     ]);
     bytes.extend(state.plus);
-    // "the four palettes, two bytes a colour, high first."
+    // 7.3: a colour has its high byte first.
     for colour in state.palettes.iter().flatten() {
         bytes.extend(colour.to_be_bytes());
     }
     bytes
 }
 
-/// "$14, $15, $08, $43, $40, $42, $4A, $4C, $68, $6B, $6C, $2F, $30, $31, $6E,
-/// $6F, $32, $33".
+/// Rule 7.2: the eighteen registers in their order.
 fn register_bytes(state: &State) -> [u8; 18] {
     [
         state.transparent,
@@ -76,8 +75,7 @@ fn register_bytes(state: &State) -> [u8; 18] {
     ]
 }
 
-/// "Record reading: 13"; "bytes are not a record of a lawful state", "gives
-/// the reset state".
+/// Rules 7.5, 9.13 and 10.7: the state of a record, or 13 and the reset state.
 pub fn read_record(bytes: &[u8]) -> (Reply, State) {
     match parse(bytes) {
         Some(state) if lawful(&state) => (DONE, state),
@@ -138,7 +136,7 @@ fn parse_registers(bytes: &[u8], state: &mut State) {
     state.ula_y = bytes[17];
 }
 
-/// "held (0 or 1)", "ULAplus on (0 or 1)".
+/// Rule 7.2: a byte that says yes or no, 1 or 0.
 fn parse_flag(value: u8) -> Option<bool> {
     match value {
         0 => Some(false),

@@ -8,16 +8,16 @@ use crate::state::{
     State,
 };
 
-/// Port $FE, "write only, low three bits are the border".
+/// Rule 3.25: port $FE, the border.
 pub const BORDER_PORT: u16 = 0x00FE;
-/// Port $FF, "readable while $08 bit 2 is set".
+/// Rule 3.26: port $FF, the Timex mode.
 pub const TIMEX_PORT: u16 = 0x00FF;
-/// Port $BF3B, "write only, below 128; 64 and up is the mode group".
+/// Rule 3.27: port $BF3B, which selects for port $FF3B.
 pub const SELECT_PORT: u16 = 0xBF3B;
-/// Port $FF3B, "a ULAplus register, or bit 0 as ULAplus on".
+/// Rule 3.28: port $FF3B, a ULAplus register or the mode group.
 pub const PLUS_PORT: u16 = 0xFF3B;
 
-/// The registers of "The state and its registers".
+/// Has section 3 this register?
 pub fn register_exists(number: u8) -> bool {
     matches!(
         number,
@@ -46,7 +46,7 @@ pub fn register_exists(number: u8) -> bool {
     )
 }
 
-/// "Writing: 4, 9, 10."
+/// Rule 10.2: writes a register, or refuses by 4, 9, 10 in this order.
 pub fn write_register(state: &State, number: u8, value: u8) -> (Reply, State) {
     if !lawful(state) {
         return (NOT_LAWFUL, state.clone());
@@ -60,17 +60,17 @@ pub fn write_register(state: &State, number: u8, value: u8) -> (Reply, State) {
     (DONE, after_register_write(state, number, value))
 }
 
-/// May this value be written to this register? Registers that the paper gives
-/// no bounds take every byte.
+/// May this value be written to this register? Registers to which section 3
+/// gives no bounds take every byte.
 fn register_value_in_bounds(state: &State, number: u8, value: u8) -> bool {
     match number {
-        // "Reserved: $1C bits 7-4 [...] are zero."
+        // 3.8: the upper half must be 0.
         0x1C => value / 16 == 0,
         0x2F => tile_x_high_in_bounds(value),
         0x33 => ula_y_in_bounds(value),
         0x42 => is_ink_mask(value),
         0x43 => palette_written(value).is_some(),
-        // "Reserved: [...] the second $44 write's bits 7-1 are zero."
+        // 3.12: the second write must be 0 or 1.
         0x44 => !state.held || value / 2 == 0,
         0x4C => tile_transparent_in_bounds(value),
         0x68 => ula_control_in_bounds(value),
@@ -100,7 +100,7 @@ fn after_register_write(state: &State, number: u8, value: u8) -> State {
         0x68 => after.ula_control = value,
         0x6B => after.tile_control = value,
         0x6C => after.tile_attribute = value,
-        // "$6E, $6F: below 64, a write's bits 7-6 dropped."
+        // 3.24: the upper two bits are dropped.
         0x6E => after.map_base = value % 64,
         0x6F => after.definition_base = value % 64,
         _ => {}
@@ -108,14 +108,13 @@ fn after_register_write(state: &State, number: u8, value: u8) -> State {
     after
 }
 
-/// "Four writes in turn, then the first again."
+/// Rule 3.7: writes the coordinate whose turn it is.
 fn write_clip(clip: &mut [u8; 4], turn: &mut u8, value: u8) {
     clip[usize::from(*turn)] = value;
     *turn = if *turn == 3 { 0 } else { *turn + 1 };
 }
 
-/// "$1C: bit 3 and bit 2 restart the tilemap and ULA turns; bits 1 and 0 do
-/// nothing".
+/// Rule 3.8: a write of $1C.
 fn restart_turns(state: &mut State, value: u8) {
     if bit(value, 3) {
         state.tile_turn = 0;
@@ -145,8 +144,7 @@ fn write_palette_register(state: &mut State, number: u8, value: u8) {
     }
 }
 
-/// "$44: first write held, second write's bit 0 completes the colour as
-/// first × 2 + bit."
+/// Rule 3.12: a write of $44. The second makes the colour first × 2 + second.
 fn write_half(state: &mut State, value: u8) {
     if state.held {
         let colour = u16::from(state.half) * 2 + u16::from(value % 2);
@@ -158,15 +156,13 @@ fn write_half(state: &mut State, value: u8) {
     }
 }
 
-/// "Writing $40, $41 or $43 drops a held half"; "the held byte is 0 when none
-/// is held".
+/// Rules 3.14 and 3.31: no half is held any more, and the held byte is 0.
 fn drop_half(state: &mut State) {
     state.held = false;
     state.half = 0;
 }
 
-/// "$41 and the second $44 then add one to the index unless $43 bit 7 is set;
-/// after index 255 comes index 0."
+/// Rule 3.13: stores a colour and, unless $43 bit 7 is set, moves the index on.
 fn write_colour(state: &mut State, colour: u16) {
     if let Some(palette) = palette_written(state.palette_control) {
         state.palettes[palette][usize::from(state.palette_index)] = colour;
@@ -180,7 +176,8 @@ fn write_colour(state: &mut State, colour: u16) {
     }
 }
 
-/// "Reading: 4, 9"; "a read gives 0" when refused.
+/// Rules 10.3 and 10.9: reads a register, or refuses by 4, 9 in this order and
+/// gives 0.
 pub fn read_register(state: &State, number: u8) -> (Reply, u8) {
     if !lawful(state) {
         return (NOT_LAWFUL, 0);
@@ -191,8 +188,7 @@ pub fn read_register(state: &State, number: u8) -> (Reply, u8) {
     (DONE, register_value(state, number))
 }
 
-/// "Other reads give the stored byte, a clip read the coordinate next to be
-/// written."
+/// Rules 3.9, 3.15 and 3.29: what a register reads as.
 fn register_value(state: &State, number: u8) -> u8 {
     match number {
         0x08 => state.peripheral,
@@ -200,7 +196,7 @@ fn register_value(state: &State, number: u8) -> u8 {
         0x15 => state.layers,
         0x1A => state.ula_clip[usize::from(state.ula_turn)],
         0x1B => state.tile_clip[usize::from(state.tile_turn)],
-        // "reads as tilemap turn × 64 + ULA turn."
+        // 3.9: both turns in one byte.
         0x1C => state.tile_turn * 64 + state.ula_turn,
         0x2F => state.tile_x_high,
         0x30 => state.tile_x_low,
@@ -208,7 +204,7 @@ fn register_value(state: &State, number: u8) -> u8 {
         0x32 => state.ula_x,
         0x33 => state.ula_y,
         0x40 => state.palette_index,
-        // "$41 reads colour div 2, $44 colour mod 2; reads move nothing."
+        // 3.15, for $44 too: the index stays.
         0x41 => (colour_written(state) / 2) as u8,
         0x42 => state.ink_mask,
         0x43 => state.palette_control,
@@ -232,7 +228,7 @@ fn colour_written(state: &State) -> u16 {
     }
 }
 
-/// "Writing: 4, 9, 10."
+/// Rule 10.2: writes a port, or refuses by 4, 9, 10 in this order.
 pub fn write_port(state: &State, port: u16, value: u8) -> (Reply, State) {
     let mut after = state.clone();
     if !lawful(state) {
@@ -249,12 +245,12 @@ pub fn write_port(state: &State, port: u16, value: u8) -> (Reply, State) {
     (DONE, after)
 }
 
-/// "$BF3B ([...] 64 and up is the mode group)".
+/// Rule 3.27: is the mode group selected?
 fn mode_group(state: &State) -> bool {
     state.select >= 64
 }
 
-/// "$FF3B (a ULAplus register, or bit 0 as ULAplus on".
+/// Rule 3.28: a write of port $FF3B.
 fn write_plus(state: &mut State, value: u8) {
     if mode_group(state) {
         state.plus_on = value % 2 == 1;
@@ -263,14 +259,15 @@ fn write_plus(state: &mut State, value: u8) {
     }
 }
 
-/// "Reading: 4, 9"; "a read gives 0" when refused.
+/// Rules 10.3 and 10.9: reads a port, or refuses by 4, 9 in this order and
+/// gives 0.
 pub fn read_port(state: &State, port: u16) -> (Reply, u8) {
     if !lawful(state) {
         return (NOT_LAWFUL, 0);
     }
     match port {
         TIMEX_PORT if state.timex_allowed() => (DONE, state.timex),
-        // "other mode bits read as 0".
+        // 3.28: bit 0, and zeros above it.
         PLUS_PORT if mode_group(state) => (DONE, u8::from(state.plus_on)),
         PLUS_PORT => (DONE, state.plus[usize::from(state.select)]),
         _ => (NO_SUCH_REGISTER, 0),

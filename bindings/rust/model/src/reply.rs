@@ -1,33 +1,33 @@
-//! The reply numbers of document 01's table.
+//! The reply numbers of section 9: rule 9.N says when reply N comes.
 
 /// A reply is a plain number, 0 to 13.
 pub type Reply = u8;
 
-/// "done"
+/// Rule 9.0: nothing is refused.
 pub const DONE: Reply = 0;
-/// "line above 255"
+/// Rule 9.1: there is no such line.
 pub const LINE_ABOVE_255: Reply = 1;
-/// "a bank not 16,384 long"
+/// Rule 9.2: the length of a bank.
 pub const WRONG_BANK: Reply = 2;
-/// "another lent buffer of the wrong length"
+/// Rule 9.3: the length of another buffer.
 pub const WRONG_BUFFER: Reply = 3;
-/// "state not lawful"
+/// Rule 9.4: a state that breaks 3.31.
 pub const NOT_LAWFUL: Reply = 4;
-/// "ULA on, LoRes off, no such mode"
+/// Rule 9.5: a Timex mode that is none.
 pub const NO_SUCH_MODE: Reply = 5;
-/// "LoRes and tilemap both on"
+/// Rule 9.6: LoRes with a tilemap.
 pub const LORES_AND_TILEMAP: Reply = 6;
-/// "ULANext and ULAplus both on"
+/// Rule 9.7: ULANext with ULAplus.
 pub const ULANEXT_AND_ULAPLUS: Reply = 7;
-/// "tilemap on, X offset at or above W"
+/// Rule 9.8: a tilemap moved by its width or more.
 pub const X_OFFSET_TOO_LARGE: Reply = 8;
-/// "no such register or port, or not that way"
+/// Rule 9.9: a register or port that is not there for this.
 pub const NO_SUCH_REGISTER: Reply = 9;
-/// "value outside its bounds"
+/// Rule 9.10: a value that is not taken.
 pub const OUT_OF_BOUNDS: Reply = 10;
-/// "no map naming at most the number allowed draws the picture"
+/// Rule 9.11: a picture of more tiles than are allowed.
 pub const TOO_MANY_TILES: Reply = 11;
-/// "allowed above 256, or offset above 15"
+/// Rule 9.12: a number allowed or a palette offset that is too large.
 pub const ALLOWED_OR_OFFSET: Reply = 12;
-/// "bytes are not a record of a lawful state"
+/// Rule 9.13: bytes that are no record.
 pub const NOT_A_RECORD: Reply = 13;

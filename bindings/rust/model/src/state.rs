@@ -2,22 +2,21 @@
 
 use crate::reply::{Reply, DONE, NOT_LAWFUL};
 
-/// Places of the four palettes in [`State::palettes`]: "ULA first and second,
-/// tilemap first and second".
+/// Rule 3.1: the places of the four palettes in [`State::palettes`].
 pub const ULA_FIRST: usize = 0;
 pub const ULA_SECOND: usize = 1;
 pub const TILEMAP_FIRST: usize = 2;
 pub const TILEMAP_SECOND: usize = 3;
 
-/// Every register as its stored byte, the ports, the frame number, the
-/// ULAplus registers and the four palettes.
+/// Rule 3.1: every register as its stored byte, the ports, the frame number,
+/// the ULAplus registers and the four palettes. 3.3 to 3.28 say what each is.
 #[derive(Clone, Debug, PartialEq, Eq)]
 pub struct State {
-    /// $08: bit 2 allows Timex modes.
+    /// $08: Timex modes, by bit 2.
     pub peripheral: u8,
     /// $14: transparent colour.
     pub transparent: u8,
-    /// $15: bit 7 LoRes.
+    /// $15: LoRes, by bit 7.
     pub layers: u8,
     /// $1A: ULA clip X1, X2, Y1, Y2.
     pub ula_clip: [u8; 4],
@@ -51,7 +50,7 @@ pub struct State {
     pub fallback: u8,
     /// $4C: tile transparency.
     pub tile_transparent: u8,
-    /// $68: bit 7 ULA off, bit 0 stencil.
+    /// $68: ULA control.
     pub ula_control: u8,
     /// $6B: tilemap control.
     pub tile_control: u8,
@@ -78,7 +77,7 @@ pub struct State {
 }
 
 impl State {
-    /// "Reset gives 0, palettes included, except where shown."
+    /// Rule 3.2: the state after a reset.
     pub fn reset() -> State {
         State {
             peripheral: 0,
@@ -115,37 +114,37 @@ impl State {
         }
     }
 
-    /// "$08: bit 2 allows Timex modes."
+    /// Rule 3.3: are Timex modes allowed?
     pub fn timex_allowed(&self) -> bool {
         bit(self.peripheral, 2)
     }
 
-    /// "$15: bit 7 LoRes."
+    /// Rule 3.5: is LoRes on?
     pub fn lores(&self) -> bool {
         bit(self.layers, 7)
     }
 
-    /// "$68: bit 7 ULA off".
+    /// Rule 3.20: is the ULA on?
     pub fn ula_on(&self) -> bool {
         !bit(self.ula_control, 7)
     }
 
-    /// "$68: [...] bit 0 stencil".
+    /// Rule 3.20: is the stencil asked for?
     pub fn stencil(&self) -> bool {
         bit(self.ula_control, 0)
     }
 
-    /// "$43: [...] bit 0 ULANext."
+    /// Rule 3.17: is ULANext on?
     pub fn ulanext(&self) -> bool {
         bit(self.palette_control, 0)
     }
 
-    /// 002: "$6B bit 7 = 1 to enable the tilemap".
+    /// Rule 3.21: is the tilemap on?
     pub fn tilemap_on(&self) -> bool {
         bit(self.tile_control, 7)
     }
 
-    /// 002: "$6B bit 6 = 0 for 40x32, 1 for 80x32".
+    /// Rule 3.21: the columns of the tilemap.
     pub fn columns(&self) -> u32 {
         if bit(self.tile_control, 6) {
             80
@@ -154,17 +153,17 @@ impl State {
         }
     }
 
-    /// 002: "$6B bit 5 = 1 to eliminate the attribute entry in the tilemap".
+    /// Rule 3.21: has an entry one byte?
     pub fn one_byte_entries(&self) -> bool {
         bit(self.tile_control, 5)
     }
 
-    /// "$2F (at most 3), $30: tilemap X."
+    /// Rule 3.23: the X offset of the tilemap.
     pub fn tile_x(&self) -> u32 {
         u32::from(self.tile_x_high) * 256 + u32::from(self.tile_x_low)
     }
 
-    /// "$43: [...] bit 1 the ULA palette shown".
+    /// Rule 3.17: the ULA palette shown.
     pub fn ula_palette_shown(&self) -> &[u16; 256] {
         if bit(self.palette_control, 1) {
             &self.palettes[ULA_SECOND]
@@ -173,7 +172,7 @@ impl State {
         }
     }
 
-    /// 002: "$6B bit 4 = palette select".
+    /// Rule 3.21: the tilemap palette shown.
     pub fn tile_palette_shown(&self) -> &[u16; 256] {
         if bit(self.tile_control, 4) {
             &self.palettes[TILEMAP_SECOND]
@@ -188,18 +187,17 @@ pub fn bit(value: u8, number: u32) -> bool {
     (value >> number) % 2 == 1
 }
 
-/// "$33 at most 191".
+/// Rule 3.6: the bound of $33.
 pub fn ula_y_in_bounds(value: u8) -> bool {
     value <= 191
 }
 
-/// "$42: ink mask, one of 1, 3, 7, 15, 31, 63, 127, 255".
+/// Rule 3.16: the values that $42 may have.
 pub fn is_ink_mask(value: u8) -> bool {
     [1, 3, 7, 15, 31, 63, 127, 255].contains(&value)
 }
 
-/// "$43: bits 6-4 choose the palette written (000, 100, 011, 111 only)".
-/// The place of that palette, or none.
+/// Rule 3.17: the place of the palette that $43 lets be written, or none.
 pub fn palette_written(control: u8) -> Option<usize> {
     match control / 16 % 8 {
         0b000 => Some(ULA_FIRST),
@@ -210,32 +208,32 @@ pub fn palette_written(control: u8) -> Option<usize> {
     }
 }
 
-/// "$4C: tile transparency, at most 15".
+/// Rule 3.19: the bound of $4C.
 pub fn tile_transparent_in_bounds(value: u8) -> bool {
     value <= 15
 }
 
-/// "$68: [...] bits 5-1 zero."
+/// Rule 3.20: the bits of $68 that must be 0.
 pub fn ula_control_in_bounds(value: u8) -> bool {
     value & 0b0011_1110 == 0
 }
 
-/// "$6B bits 3-0 zero."
+/// Rule 3.21: the bits of $6B that must be 0.
 pub fn tile_control_in_bounds(value: u8) -> bool {
     value & 0b0000_1111 == 0
 }
 
-/// "$2F (at most 3)".
+/// Rule 3.23: the bound of $2F.
 pub fn tile_x_high_in_bounds(value: u8) -> bool {
     value <= 3
 }
 
-/// "$BF3B (write only, below 128".
+/// Rule 3.27: the bound of port $BF3B.
 pub fn select_in_bounds(value: u8) -> bool {
     value < 128
 }
 
-/// "A state is lawful when every field keeps the bounds above": the registers.
+/// Rule 3.31 for what has its bound in 3.6 to 3.27.
 fn registers_lawful(state: &State) -> bool {
     ula_y_in_bounds(state.ula_y)
         && is_ink_mask(state.ink_mask)
@@ -249,9 +247,7 @@ fn registers_lawful(state: &State) -> bool {
         && select_in_bounds(state.select)
 }
 
-/// "A state is lawful when every field keeps the bounds above, the border is
-/// at most 7, colours are at most 511, turns are at most 3, and the held byte
-/// is 0 when none is held."
+/// Rule 3.31: is the state lawful?
 pub fn lawful(state: &State) -> bool {
     registers_lawful(state)
         && state.border <= 7
@@ -261,7 +257,7 @@ pub fn lawful(state: &State) -> bool {
         && (state.held || state.half == 0)
 }
 
-/// "The next frame adds one, from 255 to 0." "Next frame: 4."
+/// Rules 3.30 and 10.4: the next frame, or 4.
 pub fn next_frame(state: &State) -> (Reply, State) {
     let mut after = state.clone();
     if !lawful(state) {

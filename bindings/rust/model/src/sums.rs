@@ -11,7 +11,7 @@ pub fn adler32(bytes: &[u8]) -> u32 {
     high * 65_536 + low
 }
 
-/// The Adler-32 of dots, "two bytes a dot, high first".
+/// The Adler-32 of dots, two bytes each, the high one first.
 pub fn dots_sum(dots: &[u16]) -> u32 {
     let bytes: Vec<u8> = dots.iter().flat_map(|dot| dot.to_be_bytes()).collect();
     adler32(&bytes)

@@ -1,4 +1,4 @@
-//! "Tilemap dots".
+//! Tilemap dots: section 5.
 
 use crate::state::{bit, State};
 
@@ -38,7 +38,7 @@ impl Layout {
         }
     }
 
-    /// "Width W is 320 or 640."
+    /// Rule 5.1: the width W.
     pub fn width(&self) -> u32 {
         self.columns * 8
     }
@@ -52,33 +52,32 @@ pub struct Entry {
 }
 
 impl Entry {
-    /// 002: "bits 15-12 : palette offset".
+    /// Rule 5.3: the palette offset.
     pub fn palette_offset(&self) -> u8 {
         self.attribute / 16
     }
 
-    /// 002: "bit 11 : x mirror".
+    /// Rule 5.3: x mirror.
     pub fn x_mirror(&self) -> bool {
         bit(self.attribute, 3)
     }
 
-    /// 002: "bit 10 : y mirror".
+    /// Rule 5.3: y mirror.
     pub fn y_mirror(&self) -> bool {
         bit(self.attribute, 2)
     }
 
-    /// 002: "bit 9 : rotate".
+    /// Rule 5.3: rotate.
     pub fn rotate(&self) -> bool {
         bit(self.attribute, 1)
     }
 
-    /// 002: "bit 8 : ULA over tilemap (if the ula is disabled, bit 8 of tile
-    /// number)".
+    /// Rule 5.3: bit 8 of the entry, for 5.5 and 5.12.
     pub fn bit_8(&self) -> bool {
         bit(self.attribute, 0)
     }
 
-    /// "The tile number has bit 8 only when the ULA is off."
+    /// Rule 5.5: the tile number.
     pub fn tile_number(&self, ula_on: bool) -> u32 {
         if self.bit_8() && !ula_on {
             256 + u32::from(self.number)
@@ -88,24 +87,23 @@ impl Entry {
     }
 }
 
-/// "Addresses are taken mod 16,384."
+/// Rule 5.4: a byte of the tile bank.
 fn fetch(bank: &[u8], address: u32) -> u8 {
     bank[(address % 16_384) as usize]
 }
 
-/// "tx = (x + X offset) mod W".
+/// Rule 5.1: tx = (x + X offset) mod W.
 fn map_x(layout: &Layout, x: u32) -> u32 {
     (x + layout.x_offset) % layout.width()
 }
 
-/// "ty = (y + $31) mod 256".
+/// Rule 5.1: ty = (y + $31) mod 256.
 fn map_y(layout: &Layout, y: u32) -> u32 {
     (y + layout.y_offset) % 256
 }
 
-/// The entry for x (dots in 80 columns, pixels in 40) on line y: "The entry is
-/// cell (ty div 8) × columns + tx div 8, two bytes low first or one byte with
-/// $6C (002)."
+/// Rules 5.2 and 5.3: the entry for x on line y. x is a dot in 80 columns, a
+/// pixel in 40 (5.1).
 pub fn tile_entry(bank: &[u8], layout: &Layout, x: u32, y: u32) -> Entry {
     let cell = (map_y(layout, y) / 8) * layout.columns + map_x(layout, x) / 8;
     if layout.one_byte {
@@ -121,9 +119,8 @@ pub fn tile_entry(bank: &[u8], layout: &Layout, x: u32, y: u32) -> Entry {
     }
 }
 
-/// "Turns: a is x within the cell, or 7 − x where exactly one of x mirror and
-/// rotate is set; b is y, or 7 − y under y mirror. The definition's (column,
-/// row) is (a, b), or (b, a) under rotate."
+/// Rule 5.7: the column and the row of the definition that a cell shows at
+/// (x, y).
 pub fn turned(x_mirror: bool, y_mirror: bool, rotate: bool, x: u32, y: u32) -> (u32, u32) {
     let a = if x_mirror != rotate { 7 - x } else { x };
     let b = if y_mirror { 7 - y } else { y };
@@ -134,7 +131,7 @@ pub fn turned(x_mirror: bool, y_mirror: bool, rotate: bool, x: u32, y: u32) -> (
     }
 }
 
-/// "Definition: 32 bytes, 4 a row, high half left."
+/// Rule 5.6: a pixel of the definition at `start`.
 pub fn definition_pixel(bank: &[u8], start: u32, column: u32, row: u32) -> u8 {
     let byte = fetch(bank, start + row * 4 + column / 2);
     if column % 2 == 1 {
@@ -157,15 +154,14 @@ fn tile_pixel(bank: &[u8], layout: &Layout, entry: Entry, x: u32, y: u32) -> u8 
     definition_pixel(bank, start, column, row)
 }
 
-/// "Index: palette offset × 16 + pixel", before transparency and clip. x
-/// counts dots in 80 columns and pixels in 40; the bank is 16,384 bytes.
+/// Rule 5.8: palette offset × 16 + pixel, whatever 5.9 makes of it. x is a dot
+/// in 80 columns, a pixel in 40; the bank is 16,384 bytes.
 pub fn tile_index(bank: &[u8], layout: &Layout, x: u32, y: u32) -> u8 {
     let entry = tile_entry(bank, layout, x, y);
     entry.palette_offset() * 16 + tile_pixel(bank, layout, entry, x, y)
 }
 
-/// "Tilemap clip X counts pairs of pixels, Y counts lines; both ends are
-/// inside."
+/// Rule 5.10: is the pixel inside the tilemap clip?
 fn in_tile_clip(pixel: u32, line: u32, state: &State) -> bool {
     let [x1, x2, y1, y2] = state.tile_clip.map(u32::from);
     let pair = pixel / 2;
@@ -180,8 +176,7 @@ pub struct TileDot {
     pub bit_8: bool,
 }
 
-/// One tilemap dot. "Transparent: tilemap off, pixel equals $4C, or outside the
-/// clip."
+/// Rule 5.9: one tilemap dot.
 pub fn tile_dot(line: u32, dot: u32, bank: &[u8], state: &State) -> TileDot {
     if !state.tilemap_on() {
         return TileDot {
@@ -190,7 +185,7 @@ pub fn tile_dot(line: u32, dot: u32, bank: &[u8], state: &State) -> TileDot {
         };
     }
     let layout = Layout::of(state);
-    // "x counts dots in 80 columns and pixels in 40."
+    // 5.1: a dot or a pixel.
     let x = if layout.columns == 80 { dot } else { dot / 2 };
     let entry = tile_entry(bank, &layout, x, line);
     let pixel = tile_pixel(bank, &layout, entry, x, line);

@@ -1,4 +1,4 @@
-//! "ULA dots".
+//! ULA dots: section 4.
 
 use crate::colour::{plus_colour, widen};
 use crate::state::{bit, State};
@@ -18,13 +18,12 @@ pub enum Mode {
     Lores,
     /// The ULA is off.
     Off,
-    /// "Timex values 3, 4, 5 and 7 are no mode."
+    /// Rule 4.2: a Timex value that names none.
     NoMode,
 }
 
-/// "LoRes is judged first. Otherwise the mode is $FF bits 2-0, or 0 without
-/// $08 bit 2. Timex values 3, 4, 5 and 7 are no mode." A ULA that is off draws
-/// in no mode at all.
+/// Rules 4.1 and 4.2: LoRes, or else the Timex mode. A ULA that is off draws in
+/// no mode at all.
 pub fn ula_mode(state: &State) -> Mode {
     if !state.ula_on() {
         return Mode::Off;
@@ -63,30 +62,27 @@ pub fn colouring(state: &State) -> Colouring {
     }
 }
 
-/// "Byte address: (y' div 64) × 2048 + (y' mod 8) × 256 + (y' div 8 mod 8) × 32
-/// + x' div 8 (004)."
+/// Rule 4.4: the byte address of a row and a column.
 pub fn byte_address(row: u32, column: u32) -> u32 {
     (row / 64) * 2048 + (row % 8) * 256 + (row / 8 % 8) * 32 + column
 }
 
-/// "Mode 0: attribute at $1800 + (y' div 8) × 32 + x' div 8."
+/// Rule 4.6: the attribute of mode 0.
 pub fn attribute_address(row: u32, column: u32) -> u32 {
     0x1800 + (row / 8) * 32 + column
 }
 
-/// "Mode 2: [...] attribute at byte address + $2000."
+/// Rule 4.8: the attribute of mode 2.
 pub fn high_colour_address(row: u32, column: u32) -> u32 {
     byte_address(row, column) + 0x2000
 }
 
-/// "Column c of 64 reads the byte address of column c div 2, plus $2000 for
-/// odd c."
+/// Rule 4.9: the byte of one of the 64 columns of mode 6.
 pub fn high_resolution_address(row: u32, column: u32) -> u32 {
     byte_address(row, column / 2) + (column % 2) * 0x2000
 }
 
-/// "Index at (y' div 2) × 128 + x' div 2, plus $800 from row 48 on." Row is
-/// y' div 2, column x' div 2.
+/// Rule 4.11: the byte of LoRes. Row is y' div 2, column x' div 2.
 pub fn lores_address(row: u32, column: u32) -> u32 {
     let address = row * 128 + column;
     if row >= 48 {
@@ -96,70 +92,70 @@ pub fn lores_address(row: u32, column: u32) -> u32 {
     }
 }
 
-/// "x' = (x + $32 rounded down to a multiple of 8) mod 256".
+/// Rule 4.3: x', by $32 in steps of 8.
 pub fn scrolled_x(x: u32, ula_x: u8) -> u32 {
     (x + u32::from(ula_x / 8 * 8)) % 256
 }
 
-/// "y' = (y + $33) mod 192."
+/// Rule 4.3: y' = (y + $33) mod 192.
 pub fn scrolled_y(y: u32, ula_y: u8) -> u32 {
     (y + u32::from(ula_y)) % 192
 }
 
-/// "512 dots, moved by twice the rounded offset."
+/// Rule 4.9: the dot that a dot of mode 6 reads.
 pub fn scrolled_dot(dot: u32, ula_x: u8) -> u32 {
     (dot + 2 * u32::from(ula_x / 8 * 8)) % 512
 }
 
-/// "LoRes: x' uses the whole $32."
+/// Rule 4.11: x' of LoRes.
 pub fn scrolled_lores_x(x: u32, ula_x: u8) -> u32 {
     (x + u32::from(ula_x)) % 256
 }
 
-/// "Attribute 01pppiii, iii from $FF bits 5-3, ppp its complement (003)."
+/// Rule 4.10: the attribute of mode 6, in bits 01pppiii.
 pub fn high_resolution_attribute(timex: u8) -> u8 {
     let ink = timex / 8 % 8;
     let paper = 7 - ink;
     64 + paper * 8 + ink
 }
 
-/// Attribute bits 2-0.
+/// Rule 4.13: attribute bits 2-0.
 fn ink_part(attribute: u8) -> u8 {
     attribute % 8
 }
 
-/// Attribute bits 5-3.
+/// Rule 4.13: attribute bits 5-3.
 fn paper_part(attribute: u8) -> u8 {
     attribute / 8 % 8
 }
 
-/// Attribute bit 6.
+/// Rule 4.13: attribute bit 6.
 fn bright_part(attribute: u8) -> u8 {
     attribute / 64 % 2
 }
 
-/// "plain, ink + 8 × bright".
+/// Rule 4.13: the index of ink, ink + 8 × bright.
 pub fn plain_ink(attribute: u8) -> u8 {
     ink_part(attribute) + 8 * bright_part(attribute)
 }
 
-/// "paper 16 + paper + 8 × bright".
+/// Rule 4.13: the index of paper, 16 + paper + 8 × bright.
 pub fn plain_paper(attribute: u8) -> u8 {
     16 + paper_part(attribute) + 8 * bright_part(attribute)
 }
 
-/// "where attribute bit 7 is set and frame div 16 is odd, ink and paper change
-/// places."
+/// Rule 4.14: are ink and paper swapped in this frame?
 pub fn flashes(attribute: u8, frame: u8) -> bool {
     bit(attribute, 7) && frame / 16 % 2 == 1
 }
 
-/// "ULANext: attribute AND mask".
+/// Rule 4.15: the index of ink under ULANext.
 pub fn next_ink(attribute: u8, mask: u8) -> u8 {
     attribute & mask
 }
 
-/// The attribute shifted right past the mask, or none under mask 255.
+/// Rules 4.15 and 4.16: the attribute bits above the mask, or none under mask
+/// 255.
 fn next_paper_part(attribute: u8, mask: u8) -> Option<u8> {
     if mask == 255 {
         None
@@ -168,13 +164,12 @@ fn next_paper_part(attribute: u8, mask: u8) -> Option<u8> {
     }
 }
 
-/// "128 + the attribute shifted right past the mask"; none is the fallback:
-/// "mask 255 gives paper and border the fallback colour, in mode 6 too."
+/// Rules 4.15 and 4.16: the index of paper under ULANext; none is the fallback.
 pub fn next_paper(attribute: u8, mask: u8) -> Option<u8> {
     Some(128 + next_paper_part(attribute, mask)?)
 }
 
-/// "border 128 + border", or the fallback under mask 255.
+/// Rules 4.16 and 4.18: the index of the border under ULANext, or the fallback.
 pub fn next_border(border: u8, mask: u8) -> Option<u8> {
     if mask == 255 {
         None
@@ -183,18 +178,17 @@ pub fn next_border(border: u8, mask: u8) -> Option<u8> {
     }
 }
 
-/// "In mode 6 the border is [...] (under ULANext, 128 + paper index mod 8)",
-/// or the fallback under mask 255.
+/// Rules 4.16 and 4.19: the same in mode 6.
 pub fn next_mode_6_border(attribute: u8, mask: u8) -> Option<u8> {
     Some(128 + next_paper_part(attribute, mask)? % 8)
 }
 
-/// "ULAplus: (attribute div 64) × 16 + ink".
+/// Rule 4.17: the register of ink under ULAplus.
 pub fn plus_ink(attribute: u8) -> u8 {
     (attribute / 64) * 16 + ink_part(attribute)
 }
 
-/// "the same + 8 + paper".
+/// Rule 4.17: the register of paper under ULAplus.
 pub fn plus_paper(attribute: u8) -> u8 {
     (attribute / 64) * 16 + 8 + paper_part(attribute)
 }
@@ -237,7 +231,8 @@ fn paper_colour(state: &State, attribute: u8) -> u16 {
     }
 }
 
-/// The colour of one bit of a bitmap. "1 is ink." Only the plain rule flashes.
+/// Rules 4.5 and 4.14: the colour of one bit of a bitmap. Only plain colours
+/// flash.
 fn bit_colour(state: &State, attribute: u8, set: bool) -> u16 {
     let swapped = colouring(state) == Colouring::Plain && flashes(attribute, state.frame);
     if set != swapped {
@@ -247,25 +242,22 @@ fn bit_colour(state: &State, attribute: u8, set: bool) -> u16 {
     }
 }
 
-/// The border colour: by port $FE, or in mode 6 the paper.
+/// Rules 4.16, 4.18 and 4.19: the border colour, by port $FE or in mode 6 by
+/// the paper.
 pub fn border_colour(state: &State) -> u16 {
     if ula_mode(state) == Mode::Six {
         return mode_6_border_colour(state);
     }
     match colouring(state) {
-        // "border 16 + border"
         Colouring::Plain => palette_colour(state, 16 + state.border),
-        // "border 128 + border"
         Colouring::UlaNext => {
             palette_colour_or_fallback(state, next_border(state.border, state.ink_mask))
         }
-        // "border 8 + border"
         Colouring::UlaPlus => plus_register_colour(state, 8 + state.border),
     }
 }
 
-/// "In mode 6 the border is the paper (under ULANext, 128 + paper index mod
-/// 8)."
+/// Rule 4.19: the border colour in mode 6.
 fn mode_6_border_colour(state: &State) -> u16 {
     let attribute = high_resolution_attribute(state.timex);
     match colouring(state) {
@@ -276,7 +268,7 @@ fn mode_6_border_colour(state: &State) -> u16 {
     }
 }
 
-/// "The leftmost pixel is bit 7".
+/// Rule 4.5: the bit at a place, 0 the leftmost.
 fn bitmap_bit(byte: u8, place: u32) -> bool {
     bit(byte, 7 - place)
 }
@@ -286,18 +278,18 @@ fn fetch(bank: &[u8], address: u32) -> u8 {
     bank[address as usize]
 }
 
-/// The colour of display pixel (x, y) in modes 0, 1 and 2.
+/// Rules 4.6 to 4.8: the colour of display pixel (x, y) in modes 0, 1 and 2.
 fn attribute_pixel(mode: Mode, x: u32, y: u32, bank: &[u8], state: &State) -> u16 {
     let across = scrolled_x(x, state.ula_x);
     let row = scrolled_y(y, state.ula_y);
     let column = across / 8;
     let (bitmap, attribute) = match mode {
-        // "Mode 1: both $2000 further."
+        // 4.7: both on the second page.
         Mode::One => (
             byte_address(row, column) + 0x2000,
             attribute_address(row, column) + 0x2000,
         ),
-        // "Mode 2: bitmap as mode 0, attribute at byte address + $2000."
+        // 4.8: an attribute for each byte.
         Mode::Two => (byte_address(row, column), high_colour_address(row, column)),
         _ => (byte_address(row, column), attribute_address(row, column)),
     };
@@ -314,8 +306,8 @@ fn high_resolution_dot(dot: u32, y: u32, bank: &[u8], state: &State) -> u16 {
     bit_colour(state, attribute, bitmap_bit(byte, across % 8))
 }
 
-/// The colour of display pixel (x, y) in LoRes: "It is a ULA palette index,
-/// under ULAplus too".
+/// Rule 4.12: the colour of display pixel (x, y) in LoRes, whatever the
+/// colouring.
 fn lores_pixel(x: u32, y: u32, bank: &[u8], state: &State) -> u16 {
     let across = scrolled_lores_x(x, state.ula_x);
     let row = scrolled_y(y, state.ula_y);
@@ -323,12 +315,12 @@ fn lores_pixel(x: u32, y: u32, bank: &[u8], state: &State) -> u16 {
     palette_colour(state, index)
 }
 
-/// "The ULA display is pixels 32..287 of lines 32..223; the rest is border".
+/// Rule 2.4: is this pixel in the display?
 pub fn in_display(pixel: u32, line: u32) -> bool {
     (32..=287).contains(&pixel) && (32..=223).contains(&line)
 }
 
-/// "outside its clip (pixels and lines of the display, both ends inside)".
+/// Rule 4.21: is this pixel of the display in the ULA clip?
 fn in_ula_clip(x: u32, y: u32, state: &State) -> bool {
     let [x1, x2, y1, y2] = state.ula_clip.map(u32::from);
     x1 <= x && x <= x2 && y1 <= y && y <= y2
@@ -345,9 +337,7 @@ fn display_colour(line: u32, dot: u32, bank: &[u8], state: &State) -> u16 {
     }
 }
 
-/// One ULA dot, none where it is transparent: "when colour div 2 equals $14,
-/// when the ULA is off, or inside the display outside its clip [...]. The
-/// border is not clipped."
+/// Rules 4.21 and 4.22: one ULA dot, none where it is transparent.
 pub fn ula_dot(line: u32, dot: u32, bank: &[u8], state: &State) -> Option<u16> {
     if !state.ula_on() {
         return None;

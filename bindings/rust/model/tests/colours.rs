@@ -3,6 +3,7 @@
 use model::colour::screen_part;
 use model::{plus_colour, screen_value, widen};
 
+/// Rule 3.11.
 #[test]
 fn the_ninth_bit_is_the_or_of_the_blue_bits() {
     assert_eq!(widen(0x00), 0);
@@ -16,6 +17,7 @@ fn the_ninth_bit_is_the_or_of_the_blue_bits() {
     }
 }
 
+/// Rule 4.20.
 #[test]
 fn ulaplus_blue_is_bbb() {
     assert_eq!(plus_colour(0x00), 0);

@@ -95,6 +95,7 @@ fn a_symmetric_cell_takes_the_smallest_turn() {
     assert_eq!(map[..8], [0, 0, 0, 2, 0, 8, 0, 6]);
 }
 
+/// Rule 8.2.
 #[test]
 fn cells_are_taken_row_by_row() {
     // Cell 39 is the right end of the first row, cell 40 the left end of the

@@ -1,4 +1,4 @@
-//! Drawing refusals and their order: 1, 2, 3, 4, 6, 7, 5, 8.
+//! Drawing refusals and their order (10.1): 1, 2, 3, 4, 6, 7, 5, 8.
 
 mod common;
 

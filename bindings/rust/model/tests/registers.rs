@@ -215,7 +215,7 @@ fn register_44_takes_two_writes() {
 #[test]
 fn a_held_half() {
     let held = written(&[(0x40, 5), (0x44, 0x81)]);
-    // Writing $40, $41 or $43 drops it.
+    // 3.14: three registers drop it.
     for (number, byte) in [(0x40, 5), (0x41, 0), (0x43, 0)] {
         let after = continued(&held, &[(number, byte)]);
         assert_eq!((after.held, after.half), (false, 0));

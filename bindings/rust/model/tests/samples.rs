@@ -1,4 +1,4 @@
-//! The samples of document 01.
+//! The samples of section 11.
 
 mod common;
 
@@ -10,6 +10,7 @@ use model::ula::{
 };
 use model::{pack, plus_colour, screen_value, widen, write_register, State};
 
+/// Rules 11.1 and 11.2.
 #[test]
 fn addresses() {
     assert_eq!(byte_address(65, 0), 0x0900);
@@ -20,6 +21,7 @@ fn addresses() {
     assert_eq!(lores_address(48, 0), 0x2000);
 }
 
+/// Rule 11.3.
 #[test]
 fn attribute_5c() {
     assert_eq!(next_ink(0x5C, 7), 4);
@@ -29,6 +31,7 @@ fn attribute_5c() {
     assert_eq!(next_paper(0x5C, 15), Some(133));
 }
 
+/// Rules 11.4 and 11.5.
 #[test]
 fn colours() {
     assert_eq!(widen(0xE3), 455);
@@ -53,6 +56,7 @@ fn top_left_shows_at(x_mirror: bool, y_mirror: bool, rotate: bool) -> (u32, u32)
     places[0]
 }
 
+/// Rule 11.6, and the turns that it leaves out.
 #[test]
 fn turns() {
     assert_eq!(top_left_shows_at(false, false, true), (7, 0));
@@ -65,6 +69,7 @@ fn turns() {
     assert_eq!(top_left_shows_at(true, true, false), (7, 7));
 }
 
+/// Rule 11.7.
 #[test]
 fn x_offset_319_draws_and_320_is_refused() {
     let mut state = counting();
@@ -76,12 +81,14 @@ fn x_offset_319_draws_and_320_is_refused() {
     assert_eq!(refused(0, &bank(&[]), &bank(&[]), &state, 640), 8);
 }
 
+/// Rule 11.7.
 #[test]
 fn mask_5_is_refused() {
     let state = State::reset();
     assert_eq!(write_register(&state, 0x42, 5), (10, state.clone()));
 }
 
+/// Rule 11.7.
 #[test]
 fn line_255_draws_and_256_is_refused() {
     let state = State::reset();
@@ -89,6 +96,7 @@ fn line_255_draws_and_256_is_refused() {
     assert_eq!(refused(256, &bank(&[]), &bank(&[]), &state, 640), 1);
 }
 
+/// Rule 11.8.
 #[test]
 fn zero_pictures() {
     for (length, answer) in [(40_960, (0, 1)), (40_959, (3, 0)), (40_961, (3, 0))] {

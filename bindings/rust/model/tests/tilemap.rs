@@ -229,6 +229,7 @@ fn transparency_is_by_pixel_and_not_by_index() {
     assert_eq!(line[..4], [16, 16, 511 - 65, 511 - 65]);
 }
 
+/// Rule 5.10.
 #[test]
 fn the_clip_counts_pairs_of_pixels() {
     for control in [0x00, 0x40] {
@@ -361,6 +362,7 @@ fn mode_6_under_tiles_of_eighty_columns() {
     assert_eq!(line[62..70], [27, 510, 27, 510, 27, 510, 27, 510]);
 }
 
+/// Rule 8.6.
 #[test]
 fn tile_index_is_before_transparency_and_clip() {
     let mut tile = bank(&[(1, 0xA0)]);

@@ -51,6 +51,7 @@ fn mode_0_rows() {
     );
 }
 
+/// Rule 4.7.
 #[test]
 fn mode_1_lies_2000_further() {
     let ula = bank(&[(0, 0xFF), (0x2000, 0x80), (0x1800, 0x07), (0x3800, 0x0A)]);
@@ -269,6 +270,7 @@ fn the_eight_masks() {
     assert_eq!(next_mode_6_border(0xFF, 1), Some(135));
 }
 
+/// Rule 4.16.
 #[test]
 fn mask_255_gives_paper_and_border_the_fallback() {
     let mut state = counting();

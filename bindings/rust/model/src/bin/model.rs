@@ -177,7 +177,7 @@ fn pixel(dot: u16) -> [u8; 3] {
     [red, green, blue]
 }
 
-/// "allows 256, uses offset 0, and prints one line, `tiles N` or `refused N`."
+/// Rule 8.9: the line that the packing program prints.
 fn packing(picture: &[u8]) -> String {
     let mut map = [0; 2_560];
     let mut definitions = [0; 8_192];
