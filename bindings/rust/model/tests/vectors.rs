@@ -1,58 +1,67 @@
-//! Outside pictures, from the folder that the variable `NEXT_VECTORS` names.
-//! Without it nothing is compared.
+//! The model against outside pictures and sheets: those of the sample programs
+//! `sample_vectors` and `sample_sheets`, whose READMEs or heads name the
+//! programs that made them.
 
 use model::sums::dots_sum;
 use model::{draw, draws, fewest, pack, read_record, write_record, DOTS, RECORD_LENGTH};
-use std::fs::{read, read_dir, read_to_string};
+use std::fs::{read, read_to_string};
 use std::path::{Path, PathBuf};
 
-fn folder(part: &str) -> Option<PathBuf> {
-    let folder = std::env::var_os("NEXT_VECTORS")?;
-    Some(Path::new(&folder).join(part))
+/// A file of a sample program.
+fn sample(name: &str) -> PathBuf {
+    let crates = Path::new(env!("CARGO_MANIFEST_DIR")).join("../../../crates");
+    crates.join(name)
 }
 
-/// The files of a folder with an ending, in order.
-fn files(folder: &Path, ending: &str) -> Vec<PathBuf> {
-    let mut files: Vec<PathBuf> = read_dir(folder)
-        .unwrap()
-        .map(|entry| entry.unwrap().path())
-        .filter(|path| path.extension().is_some_and(|e| e == ending))
-        .collect();
-    files.sort();
-    files
+/// A file that a sample program is given.
+fn given(program: &str, name: &str) -> Vec<u8> {
+    let path = sample(program).join("data").join(name);
+    read(&path).unwrap_or_else(|fault| panic!("{path:?}: {fault}"))
+}
+
+/// The cases of `sample_vectors`: the names of a record, a ULA bank and a tile
+/// bank, and the sums of the 256 lines.
+fn cases() -> Vec<Vec<String>> {
+    let text = read_to_string(sample("sample_vectors").join("stdout")).unwrap();
+    let lines: Vec<String> = text.lines().map(str::to_string).collect();
+    lines.chunks(257).map(<[String]>::to_vec).collect()
 }
 
 #[test]
 fn pictures_agree_line_by_line() {
-    let Some(folder) = folder("next") else { return };
-    let records = files(&folder, "rec");
-    assert!(!records.is_empty());
-    for path in records {
-        let bytes = read(&path).unwrap();
+    let cases = cases();
+    assert_eq!(cases.len(), 24);
+    for case in cases {
+        let names: Vec<&str> = case[0].split(' ').collect();
+        let [record, ula, tile] = names[..] else {
+            panic!("{}", case[0])
+        };
+        let bytes = given("sample_vectors", record);
         let (reply, state) = read_record(&bytes);
-        assert_eq!(reply, 0, "{path:?}");
+        assert_eq!(reply, 0, "{record}");
         let mut written = vec![0; RECORD_LENGTH];
         assert_eq!(write_record(&state, &mut written), 0);
         assert_eq!(written, bytes);
-        let bank = read(path.with_extension("bank")).unwrap();
-        let sums = read_to_string(path.with_extension("sums")).unwrap();
-        assert_eq!(sums.lines().count(), 256);
-        for (line, sum) in sums.lines().enumerate() {
+        let (ula, tile) = (given("sample_vectors", ula), given("sample_vectors", tile));
+        assert_eq!(case.len(), 257);
+        for (line, sum) in case[1..].iter().enumerate() {
             let mut dots = [0; DOTS];
-            assert_eq!(draw(line as u32, &bank, &bank, &state, &mut dots), 0);
-            assert_eq!(format!("{:08x}", dots_sum(&dots)), sum, "{path:?} {line}");
+            assert_eq!(draw(line as u32, &ula, &tile, &state, &mut dots), 0);
+            assert_eq!(
+                &format!("{:08x}", dots_sum(&dots)),
+                sum,
+                "{} {line}",
+                case[0]
+            );
         }
     }
 }
 
 #[test]
 fn sheets_agree() {
-    let Some(folder) = folder("tiles") else {
-        return;
-    };
     let expected = [("allsym", 64), ("mirror", 60), ("one", 1), ("plain", 40)];
     for (name, count) in expected {
-        let picture = read(folder.join(name).with_extension("pic")).unwrap();
+        let picture = given("sample_sheets", &format!("{name}.pic"));
         let mut map = vec![0; 2_560];
         let mut definitions = vec![0; 8_192];
         let answer = pack(&picture, 256, 0, &mut map, &mut definitions);
@@ -60,7 +69,7 @@ fn sheets_agree() {
         assert_eq!(fewest(&picture), (0, count));
         assert_eq!(draws(&map, &definitions, 0, &picture), 0);
         // The outside sheet draws the same picture.
-        let sheet = read(folder.join(format!("{name}.rgbgfx.sheet"))).unwrap();
+        let sheet = given("sample_sheets", &format!("{name}.rgbgfx.sheet"));
         assert_eq!(draws(&sheet[..2_560], &sheet[2_560..], 0, &picture), 0);
     }
 }
