@@ -7,6 +7,7 @@ import shutil
 import struct
 import subprocess
 import sys
+import tempfile
 import unittest
 import zlib
 from pathlib import Path
@@ -44,6 +45,18 @@ def checkout(folder: Path) -> Path:
     made.mkdir(parents=True)
     shutil.copy(str(LIBRARY), str(made / NAME))
     return python
+
+
+class Copied(Case):
+    """Tests on a copy of a checkout, with its library."""
+
+    def setUp(self) -> None:
+        folder = tempfile.TemporaryDirectory()
+        self.addCleanup(folder.cleanup)
+        self.folder = Path(folder.name).resolve()
+        self.repository = self.folder / "repository"
+        self.package = checkout(self.repository)
+        self.made = self.repository / "target" / "bindings" / NAME
 
 
 def python(folder: Path, *arguments: str, **environment: str) -> subprocess.CompletedProcess[str]:

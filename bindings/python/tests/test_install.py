@@ -8,13 +8,12 @@ import hashlib
 import importlib.util
 import os
 import sysconfig
-import tempfile
 import unittest
 import zipfile
 from pathlib import Path
 
 import narephon
-from support import LIBRARY, NAME, PYTHON, REPOSITORY, Case, checkout, python
+from support import LIBRARY, NAME, PYTHON, REPOSITORY, Copied, python
 
 BUILD = "import narephon_backend, sys; print(getattr(narephon_backend, sys.argv[1])(sys.argv[2]))"
 INSTALLED = "import narephon; print(narephon.__file__, narephon.__version__, len(narephon.reset()))"
@@ -22,16 +21,9 @@ INFORMATION = f"narephon-{narephon.__version__}.dist-info"
 OFFLINE = {"PIP_CONFIG_FILE": os.devnull, "PIP_DISABLE_PIP_VERSION_CHECK": "1", "PIP_NO_INDEX": "1"}
 
 
-class Copied(Case):
-    """Tests on a copy of a checkout, with its library."""
-
+class Installing(Copied):
     def setUp(self) -> None:
-        folder = tempfile.TemporaryDirectory()
-        self.addCleanup(folder.cleanup)
-        self.folder = Path(folder.name).resolve()
-        self.repository = self.folder / "repository"
-        self.package = checkout(self.repository)
-        self.made = self.repository / "target" / "bindings" / NAME
+        super().setUp()
         self.missing = f"narephon: run bindings/build in the repository first: there is no {self.made}"
 
     def works(self, site: Path) -> None:
@@ -41,7 +33,7 @@ class Copied(Case):
         self.assertEqual(run.stdout, f"{site / 'narephon' / '__init__.py'} {narephon.__version__} 2150\n")
 
 
-class Wheel(Copied):
+class Wheel(Installing):
     def hook(self, name: str, into: str) -> tuple[int, str, str]:
         """A call of the backend on a new folder: its exit status, output and errors."""
         (self.folder / into).mkdir()
@@ -115,7 +107,7 @@ class Wheel(Copied):
 
 
 @unittest.skipUnless(importlib.util.find_spec("pip"), "NOT RUN: this Python has no pip")
-class Pip(Copied):
+class Pip(Installing):
     def pip(self, site: Path) -> tuple[int, str]:
         """The package installed into the folder: pip's exit status and all that it said."""
         run = python(self.repository, "-m", "pip", "install", "--target", str(site), "./bindings/python",

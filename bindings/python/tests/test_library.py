@@ -3,11 +3,10 @@
 from __future__ import annotations
 
 import shutil
-import tempfile
 import unittest
 from pathlib import Path
 
-from support import LIBRARY, NAME, Case, checkout, environment_of, python
+from support import LIBRARY, NAME, Copied, environment_of, python
 
 USED = "import narephon; print(narephon._narephon._name)"
 INSTALL = ("run bindings/build and then `pip install ./bindings/python` in the Narephon repository, "
@@ -15,14 +14,9 @@ INSTALL = ("run bindings/build and then `pip install ./bindings/python` in the N
 NAMED = "set NAREPHON_LIBRARY, which names it, to a libnarephon.so that bindings/build made, or unset it"
 
 
-class Finding(Case):
+class Finding(Copied):
     def setUp(self) -> None:
-        folder = tempfile.TemporaryDirectory()
-        self.addCleanup(folder.cleanup)
-        self.folder = Path(folder.name).resolve()
-        self.repository = self.folder / "repository"
-        self.package = checkout(self.repository)
-        self.made = self.repository / "target" / "bindings" / NAME
+        super().setUp()
         self.build = f"run bindings/build in {self.repository}"
         self.inside = self.package / "narephon" / NAME
 
