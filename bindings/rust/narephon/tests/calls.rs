@@ -126,3 +126,43 @@ fn two_members() {
         assert_eq!(narephon::read_register(&bot[&member], 0x44), Ok(low));
     }
 }
+
+/// A member's screen, all lines, and how many tiles a picture of hers needs.
+fn screen(member: u8) -> (Vec<u16>, u32) {
+    let mut record = narephon::reset();
+    for (number, value) in [(0x14, 1), (0x43, 0), (0x40, 0), (0x6B, 0x80), (0x6F, 16)] {
+        assert_eq!(narephon::write_register(&mut record, number, value), Ok(()));
+    }
+    for place in 0..=255 {
+        let colour = member.wrapping_mul(29) ^ place;
+        assert_eq!(narephon::write_register(&mut record, 0x41, colour), Ok(()));
+    }
+    let noise = |at: usize| (at * usize::from(2 * member + 1) + at / 7) as u8;
+    let bank: Vec<u8> = (0..narephon::BANK).map(noise).collect();
+    let mut dots = vec![0; 256 * narephon::DOTS];
+    for (line, row) in dots.chunks_exact_mut(narephon::DOTS).enumerate() {
+        let drawn = narephon::draw(&record, &bank, &bank, line as u32, row);
+        assert_eq!(drawn, Ok(()));
+    }
+    let picture: Vec<u8> = (0..narephon::PICTURE)
+        .map(|at| u8::from(at % 160 < usize::from(member)))
+        .collect();
+    let (mut map, mut definitions) = ([0; narephon::MAP], [0; narephon::DEFINITIONS]);
+    let count = narephon::pack(&picture, 256, 0, &mut map, &mut definitions);
+    (dots, count.expect("few classes"))
+}
+
+/// Calls on separate buffers may run side by side: what each thread gets is what its member gets alone.
+#[test]
+fn side_by_side() {
+    let alone: Vec<_> = (0..8).map(screen).collect();
+    assert!(alone.windows(2).all(|pair| pair[0].0 != pair[1].0));
+    let threads = (0..8).map(|member| {
+        std::thread::spawn(move || (0..10).map(|_| screen(member)).collect::<Vec<_>>())
+    });
+    let threads: Vec<_> = threads.collect();
+    for (thread, wanted) in threads.into_iter().zip(&alone) {
+        let got = thread.join().expect("no call panics");
+        assert!(got.iter().all(|screen| screen == wanted));
+    }
+}
