@@ -1,4 +1,4 @@
-// The answers of every call: a case for each row of document 01's reply table, and the first that refuses.
+// The answers of every call: a case for each reply of section 9 of the rules, and the first that refuses.
 ghost use mathlib.Core.Path.{_≡_};
 ghost use Rattle.reply.specs.Reply.{replyNumber};
 

@@ -1,5 +1,5 @@
-// The sums of the 256 lines of the example screen, which the preview draws: the stored ones are those of an independent
-// implementation of document 01 on the same screen.
+// The sums of the 256 lines of the example screen, which the preview draws: the stored ones are those of `bindings/rust/model`,
+// an independent implementation, on the same screen.
 use line_sums::print_lines;
 
 fn main() {

@@ -6,6 +6,7 @@ use lib.ListN.{getD}
 use lib.Dec.{ltb}
 use Rattle.state.specs.declared.State.{State}
 use Rattle.state.specs.Reset.{resetState}
+use Rattle.state.specs.Groups.{portsWithBorder}
 use Rattle.state.specs.With.{withPorts}
 use Rattle.registers.specs.Registers.{writeRegister, writePort}
 
@@ -24,6 +25,4 @@ afterWrites ws (suc n) = entryWritten (afterWrites ws n) (getD ws (n * 3) 0) (ge
 
 -- a state with a border
 abbrev pub borderState : State → ℕ → State
-borderState s b =
-    let p = s .ports in
-    withPorts s (record { border = b; timex = p .timex; select = p .select; plus = p .plus })
+borderState s b = withPorts s (portsWithBorder (s .ports) b)

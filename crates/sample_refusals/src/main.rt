@@ -1,4 +1,4 @@
-// The samples of document 01 that are not starred, each refusal of a drawing, and the order of the refusals. After the
+// The samples (section 11 of the rules) that are not starred, each refusal of a drawing, and the order of the refusals. After the
 // reply stand the first and the last number of the lent line, 65535 where it is as it was. A state is given by its writes: a register's
 // number or a port's, high byte first, and a value.
 mod asked;
