@@ -15,6 +15,20 @@ def read(path):
     return path.read_text(encoding="utf-8")
 
 
+faults = []
+
+
+def fault(text):
+    """Notes what is wrong, for the verdict."""
+    faults.append(text)
+
+
+def verdict(good):
+    """Prints what is wrong, or what is good where nothing is; the status to end with."""
+    print("\n".join(faults) or good)
+    return 1 if faults else 0
+
+
 def spec_files():
     """The files of definitions, without those that only list the others."""
     return sorted(p for p in CRATES.glob("*/specs/*.antt") if p.name != "Lib.antt")
@@ -37,6 +51,26 @@ def defined_in(path):
 def declared_in(path):
     """The types that a source declares."""
     return set(re.findall(r"^pub (?:struct|enum) (\w+)", read(path), re.M))
+
+
+def places():
+    """The files of specs that define a name, by (crate, name); for a type that a source declares, none."""
+    found = {}
+    for path in CRATES.glob("*/src/*.rt"):
+        for name in declared_in(path):
+            found.setdefault((path.parts[-3], name), set())
+    for path in spec_files():
+        for name in defined_in(path):
+            found.setdefault((path.parts[-3], name), set()).add(path)
+    return found
+
+
+def claim_rows():
+    """The rows of the tables of docs/CLAIMS.md, each as its line's number and its cells."""
+    for number, line in enumerate(read(ROOT / "docs" / "CLAIMS.md").split("\n"), 1):
+        cells = [cell.strip() for cell in line.strip().strip("|").split(" | ")] if line.startswith("| ") else []
+        if cells and cells[0] != "Rule":
+            yield number, cells
 
 
 def rules():

@@ -47,13 +47,20 @@ def checkout(folder: Path) -> Path:
     return python
 
 
-class Copied(Case):
-    """Tests on a copy of a checkout, with its library."""
+class InFolder(Case):
+    """Tests with a folder of their own."""
 
     def setUp(self) -> None:
         folder = tempfile.TemporaryDirectory()
         self.addCleanup(folder.cleanup)
         self.folder = Path(folder.name).resolve()
+
+
+class Copied(InFolder):
+    """Tests on a copy of a checkout, with its library."""
+
+    def setUp(self) -> None:
+        super().setUp()
         self.repository = self.folder / "repository"
         self.package = checkout(self.repository)
         self.made = self.repository / "target" / "bindings" / NAME

@@ -3,21 +3,17 @@
 from __future__ import annotations
 
 import re
-import tempfile
 import unittest
-from pathlib import Path
 
 import narephon
-from support import LIBRARY, PYTHON, Case, environment_of, pixels, python, sample
+from support import LIBRARY, PYTHON, InFolder, environment_of, pixels, python, sample
 
 BOT = str(PYTHON / "examples" / "bot.py")
 
 
-class Examples(Case):
+class Examples(InFolder):
     def setUp(self) -> None:
-        folder = tempfile.TemporaryDirectory()
-        self.addCleanup(folder.cleanup)
-        self.folder = Path(folder.name)
+        super().setUp()
         self.environment = environment_of(PYTHON, str(LIBRARY))
 
     def bot(self, *arguments: str) -> list[str]:
