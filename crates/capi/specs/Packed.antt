@@ -6,9 +6,8 @@ use mathlib.Core.List.{List}
 use lib.ListN.{length}
 use Rattle.reply.specs.Reply.{replyNumber}
 use Rattle.pack_rule.specs.declared.Packing.{Packing}
-use Rattle.pack_rule.specs.Greedy.{packedMap, packedDefs}
-use Rattle.pack_rule.specs.Answer.{packAnswer, Demanded}
-use Rattle.pack_rule.specs.Packs.{Packs}
+use Rattle.pack_rule.specs.Answer.{packAnswer, fewestAnswer}
+use Rattle.pack_rule.specs.Packs.{Packs, CountsFewest}
 
 -- what the packer answers for lent buffers of these lengths
 abbrev pub packed : List ℕ → ℕ → ℕ → List ℕ → List ℕ → Packing
@@ -21,13 +20,9 @@ pub record LentPacked (pic : List ℕ) (allowed offset : ℕ) (map defs map′ d
   -- all that the packer promises of them
   pub packs : Packs pic allowed offset map defs map′ defs′ (packed pic allowed offset map defs)
 
--- what the packer answers where 256 are allowed and no buffer is of the wrong length but the picture
-abbrev pub counted : List ℕ → Packing
-counted pic = packAnswer pic 256 0 2560 8192
-
 -- the reply r and the count of a picture
 pub record LentFewest (pic : List ℕ) (count r : ℕ) : Type 0 where
-  pub reply-is : r ≡ replyNumber (counted pic .reply)
-  pub count-is : count ≡ counted pic .count
-  -- accepted, the map and the definitions of the picture draw it with the fewest; refused 11, none draws
-  pub demand : Demanded pic 256 0 (packedMap pic 0) (packedDefs pic) (counted pic)
+  pub reply-is : r ≡ replyNumber (fewestAnswer pic .reply)
+  pub count-is : count ≡ fewestAnswer pic .count
+  -- all that the packer promises of it
+  pub counts : CountsFewest pic (fewestAnswer pic)

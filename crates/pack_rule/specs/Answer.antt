@@ -27,6 +27,10 @@ packAnswer pic allowed offset map defs =
     let early = judged (length pic) map defs allowed offset in
     cond (isDone early) (answered (tileCount pic) allowed) (record { reply = early; count = 0 })
 
+-- the answer without lent buffers: 256 allowed, palette offset 0, a map and definitions of the right lengths
+abbrev pub fewestAnswer : List ℕ → Packing
+fewestAnswer pic = packAnswer pic 256 0 2560 8192
+
 -- no map naming at most the number allowed draws the picture
 abbrev pub NoneDraws : List ℕ → ℕ → ℕ → Type 0
 NoneDraws pic allowed offset = (map defs : List ℕ) → Draws pic offset map defs → named map ≤ allowed → ⊥

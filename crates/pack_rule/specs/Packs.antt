@@ -1,4 +1,5 @@
--- Rules 1.2, 1.6, 1.8, 9.11 and 10.9: packing into a lent map and definitions: the answer, what both hold afterwards, and demand 3 of them.
+-- Rules 1.2, 1.6 to 1.8, 8.8, 9.11 and 10.9: packing into a lent map and definitions: the answer, what both hold afterwards, and demand 3
+-- of them; and the fewest without these.
 use mathlib.Core.Path.{_≡_}
 use mathlib.Core.List.{List}
 use mathlib.Core.Bool.{cond}
@@ -8,7 +9,7 @@ use Rattle.reply.specs.declared.Reply.the-variants.{TooManyTiles}
 use Rattle.reply.specs.Reply.{isDone}
 use Rattle.pack_rule.specs.declared.Packing.{Packing}
 use Rattle.pack_rule.specs.Greedy.{packedMap, packedDefs}
-use Rattle.pack_rule.specs.Answer.{packAnswer, NoneDraws, Demanded}
+use Rattle.pack_rule.specs.Answer.{packAnswer, fewestAnswer, NoneDraws, Demanded}
 use Rattle.pack_rule.specs.Claims.{SettingExists}
 
 -- a packing: its answer, the map and the definitions before (map, defs) and after (map′, defs′)
@@ -23,3 +24,8 @@ pub record Packs (pic : List ℕ) (allowed offset : ℕ) (map defs map′ defs�
       → answer .reply ≡ TooManyTiles
   -- there is a setting for every map and definitions
   pub settings : SettingExists
+
+-- the fewest of a picture without lent buffers: its answer, and demand 3 for the map and the definitions that a packing would write
+pub record CountsFewest (pic : List ℕ) (answer : Packing) : Type 0 where
+  pub answer-is : answer ≡ fewestAnswer pic
+  pub demand : Demanded pic 256 0 (packedMap pic 0) (packedDefs pic) answer

@@ -1,9 +1,8 @@
 // The tile packer: the map and the definitions of a picture, and the fewest tiles that draw it. `pack` and `fewest` ask for nothing;
 // the functions of the module ask for what `judge` has established.
 ghost use mathlib.Core.Path.{_≡_};
-ghost use Rattle.pack_rule.specs.Greedy.{packedMap, packedDefs};
-ghost use Rattle.pack_rule.specs.Answer.{judged, answered, packAnswer, Demanded};
-ghost use Rattle.pack_rule.specs.Packs.{Packs};
+ghost use Rattle.pack_rule.specs.Answer.{judged, answered};
+ghost use Rattle.pack_rule.specs.Packs.{Packs, CountsFewest};
 
 mod sheet;
 
@@ -67,8 +66,7 @@ pub fn pack(
 
 // The fewest tiles that draw a picture: the answer of `pack` with 256 allowed and buffers of the right lengths.
 pub fn fewest(picture: &[u8]) -> Packing
-    ensures { λ r. ⌜ (r ≡ packAnswer (now (picture .entry)) 256 0 2560 8192)
-        × (Demanded (now (picture .entry)) 256 0 (packedMap (now (picture .entry)) 0) (packedDefs (now (picture .entry))) r) ⌝ }
+    ensures { λ r. ⌜ CountsFewest (now (picture .entry)) r ⌝ }
 {
     let early = judge(picture.len(), 2560, 8192, 256, 0);
     if reply::number(early) != 0 {

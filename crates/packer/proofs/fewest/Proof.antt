@@ -18,7 +18,10 @@ returns : tie.Need-returns
 returns c = let s = c .before .before .before .before in
     let p = s .args .picture .now in
     let e = answer-early p 256 0 2560 8192 (c .before .before .judge .result) (c .before .before .judge .ensures) (λ e. c .if1 .taken (c .before .number .ensures ∙ e)) in
-    (e, rw e (demanded p 256 0 2560 8192 (λ i. omega (arith, c .before .before .before .shared-slice-known .given i))))
+    record {
+      answer-is = e;
+      demand = rw e (demanded p 256 0 2560 8192 (λ i. omega (arith, c .before .before .before .shared-slice-known .given i)));
+    }
 
 count-requires : tie.Need-count-requires
 count-requires c κs = let s = c .before .before .before .before in
@@ -33,7 +36,10 @@ returns-2 c = let s = c .before .before .before .before .before .before in
     let z = ap replyNumber (sym (c .before .before .before .before .judge .ensures)) ∙ sym (c .before .before .before .number .ensures) ∙ c .before .before .if1 .left in
     let p = s .args .picture .now in
     let e = c .answer .ensures ∙ answered-same p 256 _ (c .before .count .ensures) ∙ answer-judged p 256 0 2560 8192 z in
-    (e, rw e (demanded p 256 0 2560 8192 (λ i. omega (arith, c .before .before .before .before .before .shared-slice-known .given i))))
+    record {
+      answer-is = e;
+      demand = rw e (demanded p 256 0 2560 8192 (λ i. omega (arith, c .before .before .before .before .before .shared-slice-known .given i)));
+    }
 
 pub fewest-spec : {M : Type 1} → statement M
 fewest-spec =

@@ -14,18 +14,18 @@ fewest-requires c κs = search needs
 
 cast-count : tie.Need-cast-count
 cast-count c = let p = c .before .fewest in
-    let h : p .result .count ≤ 256 = rw (p .ensures .0) (count-small _ _ _ _ _) in omega arith
+    let h : p .result .count ≤ 256 = rw (p .ensures .answer-is) (count-small _ _ _ _ _) in omega arith
 
 number-requires : tie.Need-number-requires
 number-requires c κs = search needs
 
 returns : tie.Need-returns
 returns c = let p = c .before .before .fewest in
-    let e = p .ensures .0 in
+    let e = p .ensures .answer-is in
     record {
       reply-is = c .number .ensures ∙ ap (λ (a : Packing). replyNumber (a .reply)) e;
       count-is = ap (λ (a : Packing). a .count) e;
-      demand = rw e at (p .ensures .1);
+      counts = rw e at (p .ensures);
     }
 
 pub narephon-fewest-spec : {M : Type 1} → statement M
