@@ -22,9 +22,13 @@ use Rattle.ula_mode.specs.Modes.{modeOf, isMissing}
 unfoldable pub lineReply : LineNumber → Reply
 lineReply line = cond (isLine line) Done NoLine
 
+-- a bank is 16,384 bytes
+abbrev pub isBank : ℕ → Bool
+isBank n = eqb n 16384
+
 -- 2: a bank not 16,384 long; 3: another lent buffer of the wrong length, which is the line of 640
 unfoldable pub lengthsReply : ℕ → ℕ → ℕ → Reply
-lengthsReply ula tile out = cond (eqb ula 16384 && eqb tile 16384) (cond (eqb out 640) Done BufferLength) BankLength
+lengthsReply ula tile out = cond (isBank ula && isBank tile) (cond (eqb out 640) Done BufferLength) BankLength
 
 -- 6: LoRes and tilemap both on
 abbrev pub loresWithTiles : Ula → Tiles → Bool

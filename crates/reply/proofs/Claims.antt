@@ -1,11 +1,11 @@
--- A reply is found again by its number in the list of all fourteen, so its number tells it.
+-- A reply is found again by its number in the list of all, so its number tells it.
 use Prim.Native.Nat.{ℕ, zero, suc}
 use mathlib.Core.Path.{_≡_, refl, sym, ap, _∙_}
 use mathlib.Core.List.{List, [], _∷_}
 use Rattle.reply.specs.Reply.{replyNumber}
 use Rattle.reply.specs.Claims.{NumberTells}
 use Rattle.reply.specs.declared.Reply.{Reply}
-use Rattle.reply.specs.declared.Reply.the-variants.{Done, NoLine, BankLength, BufferLength, NotLawful, NoMode, LoresWithTiles, NextWithPlus, FarOffset, NoRegister, OutOfBounds, TooManyTiles, PackingBounds, NotRecord}
+use Rattle.reply.specs.declared.Reply.the-variants.{Done, NoLine, BankLength, BufferLength, NotLawful, NoMode, LoresWithTiles, NextWithPlus, FarOffset, NoRegister, OutOfBounds, TooManyTiles, PackingBounds, NotRecord, NoForm}
 
 -- the member of a list at a number
 at : List Reply → ℕ → Reply
@@ -29,6 +29,7 @@ replies =
     ∷ TooManyTiles
     ∷ PackingBounds
     ∷ NotRecord
+    ∷ NoForm
     ∷ []
 
 found : (r : Reply) → at replies (replyNumber r) ≡ r
@@ -47,6 +48,7 @@ found OutOfBounds = refl
 found TooManyTiles = refl
 found PackingBounds = refl
 found NotRecord = refl
+found NoForm = refl
 
 pub numberTells : NumberTells
 numberTells a b e = sym (found a) ∙ ap (at replies) e ∙ found b

@@ -3,7 +3,7 @@ use Prim.Native.Nat.{ℕ}
 use mathlib.Core.Bool.{Bool}
 use lib.Dec.{eqb}
 use Rattle.reply.specs.declared.Reply.{Reply}
-use Rattle.reply.specs.declared.Reply.the-variants.{Done, NoLine, BankLength, BufferLength, NotLawful, NoMode, LoresWithTiles, NextWithPlus, FarOffset, NoRegister, OutOfBounds, TooManyTiles, PackingBounds, NotRecord}
+use Rattle.reply.specs.declared.Reply.the-variants.{Done, NoLine, BankLength, BufferLength, NotLawful, NoMode, LoresWithTiles, NextWithPlus, FarOffset, NoRegister, OutOfBounds, TooManyTiles, PackingBounds, NotRecord, NoForm}
 
 -- the number of each row of the table
 abbrev pub replyNumber : Reply → ℕ
@@ -35,6 +35,8 @@ replyNumber TooManyTiles = 11
 replyNumber PackingBounds = 12
 -- bytes are not a record of a lawful state
 replyNumber NotRecord = 13
+-- a file that is no screen, or a screen that has no form as a file
+replyNumber NoForm = 14
 
 -- a reply that refuses nothing
 abbrev pub isDone : Reply → Bool

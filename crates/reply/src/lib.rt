@@ -21,6 +21,7 @@ pub enum Reply {
     TooManyTiles,
     PackingBounds,
     NotRecord,
+    NoForm,
 }
 
 // The paper's number of a reply.
@@ -42,5 +43,6 @@ pub fn number(r: Reply) -> u8
         Reply::TooManyTiles => 11,
         Reply::PackingBounds => 12,
         Reply::NotRecord => 13,
+        Reply::NoForm => 14,
     }
 }
