@@ -1,15 +1,15 @@
 -- The claims on lent records. A record that is read holds a lawful and typed state; every change keeps it so, and the record of such a
 -- state reads back. A call on it is refused by 4 nowhere.
 use Prim.Native.Nat.{ℕ}
-use mathlib.Core.Path.{_≡_, refl, sym, ap, _∙_}
+use mathlib.Core.Path.{_≡_, refl, ap, _∙_}
 use mathlib.Core.List.{List}
 use mathlib.Core.Bool.{Bool, true, false, cond, _&&_}
 use native.Mathlib.Omega.{arith}
 use lib.Dec.{eqb}
 use Rattle.lists.proofs.Cond.{if-true, either}
 use Rattle.reply.specs.declared.Reply.{Reply}
-use Rattle.reply.specs.declared.Reply.the-variants.{Done, NoLine, BankLength, BufferLength, NotLawful, NoMode, LoresWithTiles, NextWithPlus, FarOffset, NotRecord}
-use Rattle.reply.specs.Reply.{replyNumber, isDone}
+use Rattle.reply.specs.declared.Reply.the-variants.{Done, NoLine, BankLength, BufferLength, NoMode, LoresWithTiles, NextWithPlus, FarOffset}
+use Rattle.reply.specs.Reply.{isDone}
 use Rattle.reply.proofs.Done.{is-done}
 use Rattle.reply.proofs.Order.{hit-each}
 use Rattle.state.specs.declared.State.{State}
@@ -24,11 +24,9 @@ use Rattle.register_answers.specs.declared.Reading.{Reading}
 use Rattle.register_answers.specs.Answers.{unread}
 use Rattle.register_laws.specs.Claims.{LawfulStays}
 use Rattle.register_laws.proofs.Claims.{lawfulStays, neverFour}
-use Rattle.record_layout.specs.Record.{accepted, stateIn, readRecord}
-use Rattle.record_layout.specs.Version.{current}
+use Rattle.record_layout.specs.Record.{stateIn, readRecord}
 use Rattle.record_layout.proofs.Claims.{readLawful}
 use Rattle.record_layout.proofs.RoundTrip.{record-read, answer, state-lawful}
-use Rattle.record_layout.proofs.Stages.{accepts, refuses}
 use Rattle.line_replies.specs.Replies.{lineReply, lengthsReply, stateReply, loresWithTiles, nextWithPlus, noMode, farOffset}
 use Rattle.lent.specs.declared.changes.Change.{Change}
 use Rattle.lent.specs.declared.changes.Change.the-variants.{NextFrame, Register, Port}
@@ -38,6 +36,7 @@ use Rattle.lent.specs.Calls.{changed, asked, ByteWritten}
 use Rattle.lent.specs.Lent.{lentAnswer, lentAfter, lentReading}
 use Rattle.lent_drawing.specs.Drawn.{lentDrawReply}
 use Rattle.lent_laws.specs.Claims.{ChangeReadsBack, NeverNotLawful}
+use Rattle.lent_laws.proofs.NotFour.{NotFour, other, record-not-four}
 
 -- every change keeps a lawful and typed state so
 change-keeps : (c : Change) (s : State) → ByteWritten c → Typed s → lawfulState s ≡ true
@@ -62,21 +61,6 @@ changeReadsBack b c y w d =
     (either (λ a. Typed (a .state)) (isDone (readRecord b .reply)) (changed c (readRecord b .state)) (readRecord b) (k .1) (r .1)) d
 
 -- ---- never 4
-
-abbrev NotFour : Reply → Type 0
-NotFour r = r ≡ NotLawful → ⊥
-
--- a reply with another number
-other : (r : Reply) (n : ℕ) → replyNumber r ≡ n → (n ≡ 4 → ⊥) → NotFour r
-other r n e z d = z (sym e ∙ ap replyNumber d)
-
-record-not-four : (b : List ℕ) → NotFour (readRecord b .reply)
-unfolding readRecord
-record-not-four b = go (accepted current b) refl
-  where
-    go : (t : Bool) → accepted current b ≡ t → NotFour (readRecord b .reply)
-    go true e = rw (accepts current b e) (other Done 0 refl (λ z. omega arith))
-    go false e = rw (refuses current b e) (other NotRecord 13 refl (λ z. omega arith))
 
 state-read : (b : List ℕ) → readRecord b .reply ≡ Done → readRecord b .state ≡ stateIn b
 state-read b r = ap (λ (a : Answer). a .state) (answer b r)

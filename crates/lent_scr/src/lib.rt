@@ -1,0 +1,8 @@
+// Screen files by a lent record: read into the state in the bytes lent, and written from it. Bytes that are no record are refused by 13,
+// which stands where 4 stands for a state.
+mod reading;
+mod writing;
+
+pub use reading::ScreenRead;
+pub use reading::read_scr_record;
+pub use writing::write_scr_record;

@@ -1,0 +1,3 @@
+mod Shown
+mod Written
+pub mod Claims
