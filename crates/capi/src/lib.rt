@@ -2,6 +2,7 @@
 mod changes;
 mod pictures;
 mod readings;
+mod screens;
 
 pub use changes::narephon_next_frame;
 pub use changes::narephon_reset;
@@ -14,3 +15,5 @@ pub use pictures::narephon_screen_value;
 pub use readings::narephon_check_record;
 pub use readings::narephon_read_port;
 pub use readings::narephon_read_register;
+pub use screens::narephon_read_scr;
+pub use screens::narephon_write_scr;
