@@ -1,11 +1,11 @@
 //! A plain model of a ZX Spectrum Next line drawer: register file, one line
-//! of 640 dots, stored record and tile packer.
+//! of 640 dots, stored record, screen files and tile packer.
 //!
 //! It is written from document 01, the scope paper, alone (with the tilemap
-//! page where that paper leaves bits to it) and not from the Rattle code. The
-//! comments cite its rules by the numbers that docs/RULES.md gives them. A
-//! request that comes later extends the model from its paper alone, before the
-//! code is looked at.
+//! page where that paper leaves bits to it) and not from the Rattle code; screen
+//! files are from their request and the page on ULAplus. The comments cite the
+//! rules by the numbers that docs/RULES.md gives them. A request that comes
+//! later extends the model from its paper alone, before the code is looked at.
 //!
 //! Every rule is worked out for one dot, one cell or one register at a time;
 //! nothing here is written for speed.
@@ -16,6 +16,7 @@ pub mod packing;
 pub mod record;
 pub mod registers;
 pub mod reply;
+pub mod scr;
 pub mod state;
 pub mod sums;
 pub mod tilemap;
@@ -27,6 +28,7 @@ pub use packing::{draws, draws_at, fewest, pack};
 pub use record::{read_record, write_record, RECORD_LENGTH};
 pub use registers::{read_port, read_register, write_port, write_register};
 pub use reply::Reply;
+pub use scr::{read_scr, write_scr, SCREEN_LENGTH};
 pub use state::{lawful, next_frame, State};
 pub use tilemap::{tile_index, Layout};
 pub use ula::{ula_mode, Mode};

@@ -1,6 +1,6 @@
 //! The reply numbers of section 9: rule 9.N says when reply N comes.
 
-/// A reply is a plain number, 0 to 13.
+/// A reply is a plain number, 0 to 14.
 pub type Reply = u8;
 
 /// Rule 9.0: nothing is refused.
@@ -31,3 +31,5 @@ pub const TOO_MANY_TILES: Reply = 11;
 pub const ALLOWED_OR_OFFSET: Reply = 12;
 /// Rule 9.13: bytes that are no record.
 pub const NOT_A_RECORD: Reply = 13;
+/// Rule 9.14: a file that is no screen, or a mode that no file holds.
+pub const NO_FORM: Reply = 14;

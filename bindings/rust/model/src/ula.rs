@@ -22,12 +22,18 @@ pub enum Mode {
     NoMode,
 }
 
-/// Rules 4.1 and 4.2: LoRes, or else the Timex mode. A ULA that is off draws in
-/// no mode at all.
+/// Rules 4.1 and 4.2, but a ULA that is off draws in no mode at all.
 pub fn ula_mode(state: &State) -> Mode {
-    if !state.ula_on() {
-        return Mode::Off;
+    if state.ula_on() {
+        mode_kept(state)
+    } else {
+        Mode::Off
     }
+}
+
+/// Rules 4.1 and 4.2: LoRes, or else the Timex mode, whether the ULA is on or
+/// off.
+pub fn mode_kept(state: &State) -> Mode {
     if state.lores() {
         return Mode::Lores;
     }

@@ -26,6 +26,18 @@ fn run(words: &[&str], files: &[&PathBuf]) -> (String, bool) {
     (String::from_utf8(bytes).unwrap(), well)
 }
 
+/// How many lines the program writes of what is wrong, when it writes nothing
+/// else.
+fn complaints(words: &[&str], files: &[&PathBuf]) -> usize {
+    let output = Command::new(env!("CARGO_BIN_EXE_model"))
+        .args(words)
+        .args(files)
+        .output()
+        .unwrap();
+    assert!(output.stdout.is_empty() && !output.status.success());
+    String::from_utf8(output.stderr).unwrap().lines().count()
+}
+
 fn record_of(state: &model::State) -> Vec<u8> {
     let mut bytes = vec![0; model::RECORD_LENGTH];
     assert_eq!(model::write_record(state, &mut bytes), 0);
@@ -107,6 +119,120 @@ fn a_picture() {
     let short = file("picture_short", &[0; 16_383]);
     let refused = run(&["picture"], &[&record, &bank, &short]);
     assert_eq!(refused, (String::new(), false));
+}
+
+/// A picture of 640 × 512 in one colour, but for some dots of one line in
+/// another.
+fn one_line(ground: [u8; 3], line: usize, dots: std::ops::Range<usize>, mark: [u8; 3]) -> Vec<u8> {
+    let mut pixels = vec![ground; 640 * 512];
+    for row in [2 * line, 2 * line + 1] {
+        pixels[row * 640 + dots.start..row * 640 + dots.end].fill(mark);
+    }
+    let mut ppm = b"P6\n640 512\n255\n".to_vec();
+    ppm.extend(pixels.concat());
+    ppm
+}
+
+/// A screen file alone has the standard colours and a black border: yellow ink
+/// in the last column of the top row, and each of the sixteen as paper.
+#[test]
+fn a_screen() {
+    let mut bytes = [0; 6_912];
+    bytes[31] = 0x01;
+    bytes[6_144 + 31] = 0x06;
+    let plain = file("screen_plain", &bytes);
+    let expected = one_line([0, 0, 0], 32, 574..576, [0xB5, 0xB5, 0]);
+    assert!(run_bytes(&["screen"], &[&plain]) == (expected, true));
+    for (paper, colour) in [
+        (0x08, [0, 0, 0xB5]),
+        (0x10, [0xB5, 0, 0]),
+        (0x18, [0xB5, 0, 0xB5]),
+        (0x20, [0, 0xB5, 0]),
+        (0x38, [0xB5, 0xB5, 0xB5]),
+        (0x40, [0, 0, 0]),
+        (0x48, [0, 0, 0xFF]),
+        (0x50, [0xFF, 0, 0]),
+        // $14 is this colour, and so is the fallback.
+        (0x58, [0xFF, 0, 0xFF]),
+        (0x60, [0, 0xFF, 0]),
+        (0x68, [0, 0xFF, 0xFF]),
+        (0x70, [0xFF, 0xFF, 0]),
+        (0x78, [0xFF, 0xFF, 0xFF]),
+    ] {
+        bytes[6_144..].fill(paper);
+        let plain = file("screen_paper", &bytes);
+        let (picture, well) = run_bytes(&["screen"], &[&plain]);
+        let middle = picture.len() - 640 * 3 * 256 + 320 * 3;
+        assert!(well && picture[middle..middle + 3] == colour, "{paper}");
+        assert!(picture[15..18] == [0, 0, 0]);
+    }
+}
+
+/// A file of mode 6 with colours: paper and border are red, and the ink, green,
+/// shows in dot 1 of the last line alone.
+#[test]
+fn a_screen_with_colours() {
+    let mut bytes = vec![0; 12_353];
+    bytes[0x17E0] = 0x40;
+    bytes[12_288] = 0x26;
+    // $26 gives the attribute 01 011 100: registers 16 + 4 and 16 + 8 + 3.
+    bytes[12_289 + 20] = 0xE0;
+    bytes[12_289 + 27] = 0x1C;
+    let screen = file("screen_six", &bytes);
+    let expected = one_line([255, 0, 0], 223, 65..66, [0, 255, 0]);
+    assert!(run_bytes(&["screen"], &[&screen]) == (expected, true));
+}
+
+/// With a record the screen has the record's colours and border, and its bank is
+/// the tile bank too.
+#[test]
+fn a_screen_in_a_record() {
+    let mut state = model::State::reset();
+    state.layers = 0x80;
+    state.palette_control = 1;
+    state.palettes[0][16] = 7;
+    state.palettes[0][0] = 448;
+    let record = file("screen_record", &record_of(&state));
+    let mut bytes = [0; 6_912];
+    bytes[0] = 0x80;
+    let screen = file("screen_of_record", &bytes);
+    let expected = one_line([0, 0, 255], 32, 64..66, [255, 0, 0]);
+    assert!(run_bytes(&["screen"], &[&record, &screen]) == (expected, true));
+    // Entry 0 in a bank whose tile 0 starts with pixels 8 and 0; $4C is 0.
+    state.tile_control = 0x80;
+    state.tile_transparent = 0;
+    state.palettes[2][8] = 56;
+    state.map_base = 63;
+    let record = file("screen_tiles", &record_of(&state));
+    let (picture, well) = run_bytes(&["screen"], &[&record, &screen]);
+    assert!(well && picture[15..21] == [0, 255, 0, 0, 255, 0]);
+    assert!(picture[21..24] == [0, 0, 255]);
+}
+
+/// Of a screen that is refused nothing is written but one line of what is wrong.
+#[test]
+fn refused_screens() {
+    let good = file("screen_good", &[0; 6_912]);
+    let odd = file("screen_odd", &[0; 6_913]);
+    let mode_2 = file("screen_port", &[2; 12_289]);
+    let record = file("screen_reset", &reset_record());
+    let mut state = model::State::reset();
+    state.tile_control = 0x80;
+    state.tile_x_high = 3;
+    let far = file("screen_far", &record_of(&state));
+    let nowhere = PathBuf::from(env!("CARGO_TARGET_TMPDIR")).join("screen_nowhere");
+    for files in [
+        vec![&odd],
+        vec![&mode_2],
+        vec![&nowhere],
+        vec![&record, &odd],
+        vec![&odd, &good],
+        vec![&nowhere, &good],
+        vec![&far, &good],
+    ] {
+        assert_eq!(complaints(&["screen"], &files), 1, "{files:?}");
+    }
+    assert!(run(&["screen"], &[&record, &good]).1);
 }
 
 #[test]

@@ -1,10 +1,10 @@
-//! Works out expected answers: register scripts, records, lines, pictures, packings.
+//! Works out expected answers: register scripts, records, lines, pictures, screen files, packings.
 
 use model::reply::{Reply, DONE, NO_SUCH_REGISTER};
 use model::sums::dots_sum;
 use model::{
-    draw, next_frame, pack, read_port, read_record, read_register, screen_value, write_port,
-    write_record, write_register, State, DOTS, RECORD_LENGTH,
+    draw, next_frame, pack, read_port, read_record, read_register, read_scr, screen_value, widen,
+    write_port, write_record, write_register, State, BANK_LENGTH, DOTS, RECORD_LENGTH,
 };
 use std::env::args;
 use std::fs::read;
@@ -15,6 +15,7 @@ const USAGE: &str = "usage: model script FILE
        model record FILE
        model lines RECORD ULABANK TILEBANK
        model picture RECORD ULABANK TILEBANK
+       model screen [RECORD] SCREEN
        model pack FILE";
 
 fn main() -> ExitCode {
@@ -41,6 +42,8 @@ fn answer(words: &[&str]) -> Result<Vec<u8>, String> {
         ["record", file] => record(&load(file)?),
         ["lines", record, ula, tile] => lines(&screen(record, ula, tile)?),
         ["picture", record, ula, tile] => return picture(&screen(record, ula, tile)?),
+        ["screen", file] => return picture(&shown(file, standard())?),
+        ["screen", record, file] => return picture(&shown(file, known(record)?)?),
         ["pack", file] => packing(&load(file)?),
         _ => return Err(USAGE.to_string()),
     };
@@ -134,12 +137,47 @@ impl Screen {
 }
 
 fn screen(record: &str, ula: &str, tile: &str) -> Result<Screen, String> {
-    let (reply, state) = read_record(&load(record)?);
-    if reply != DONE {
-        return Err(format!("{record}: refused {reply}"));
-    }
+    let state = known(record)?;
     let (ula, tile) = (load(ula)?, load(tile)?);
     Ok(Screen { state, ula, tile })
+}
+
+/// The state in a file that must be a record.
+fn known(record: &str) -> Result<State, String> {
+    match read_record(&load(record)?) {
+        (DONE, state) => Ok(state),
+        (reply, _) => Err(format!("{record}: refused {reply}")),
+    }
+}
+
+/// A screen file read into a state and into a bank of zeros, which is the tile
+/// bank too.
+fn shown(file: &str, state: State) -> Result<Screen, String> {
+    let mut ula = vec![0; BANK_LENGTH];
+    match read_scr(&state, &mut ula, &load(file)?) {
+        (DONE, state, _) => Ok(Screen {
+            state,
+            tile: ula.clone(),
+            ula,
+        }),
+        (reply, _, _) => Err(format!("{file}: refused {reply}")),
+    }
+}
+
+/// Black, blue, red, magenta, green, cyan, yellow and white, then bright.
+const STANDARD: [u8; 16] = [
+    0x00, 0x02, 0xA0, 0xA2, 0x14, 0x16, 0xB4, 0xB6, 0x00, 0x03, 0xE0, 0xE3, 0x1C, 0x1F, 0xFC, 0xFF,
+];
+
+/// The reset state with the sixteen colours for ink and paper. Bright magenta is
+/// $14, so the fallback is bright magenta as well.
+fn standard() -> State {
+    let mut state = State::reset();
+    state.fallback = 0xE3;
+    for index in 0..32 {
+        state.palettes[0][index] = widen(STANDARD[index % 16]);
+    }
+    state
 }
 
 /// The reply and the Adler-32 of each of the 256 lines.
