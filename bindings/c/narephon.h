@@ -1,17 +1,19 @@
-/* Narephon: ZX Spectrum Next lines, registers, records and tile packing.
+/* Narephon: ZX Spectrum Next lines, registers, records, screen files and tile
+ * packing.
  *
  * A member's whole video state is a record of NAREPHON_RECORD bytes that the
  * caller keeps and lends. Every call ends with an answer on every input and
- * returns a reply number (NAREPHON_DONE is 0). On a refusal `*value` and
- * `*count` are set to 0, and the record and every other buffer stay as they
- * were. Later versions may answer with numbers that are not in this header: a
- * caller takes any number but 0 for a refusal.
+ * returns a reply number (NAREPHON_DONE is 0). On a refusal `*value`, `*count`,
+ * `*colours` and `*length` are set to 0, and the record and every other buffer
+ * stay as they were. Later versions may answer with numbers that are not in this
+ * header: a caller takes any number but 0 for a refusal.
  *
  * A buffer is a pointer and its number of elements. A pointer is not null,
  * also where the number is 0. What is lent for reading may overlap: `ula` and
  * `tile` may be the same pointer. What is lent for writing (the record of a
- * call that changes it, `dots`, `map`, `definitions`, and `value` and `count`
- * too) overlaps nothing else that the call is given.
+ * call that changes it, the bank that a screen file is read into, the file that
+ * one is written into, `dots`, `map`, `definitions`, and `value`, `count`,
+ * `colours` and `length` too) overlaps nothing else that the call is given.
  *
  * The library keeps nothing between calls and has no data of its own that it
  * writes. Calls may run side by side in several threads as long as none writes
@@ -28,9 +30,9 @@ extern "C" {
 #endif
 
 /* The version of this header and of the library that it is delivered with. */
-#define NAREPHON_VERSION "0.1.0"
+#define NAREPHON_VERSION "0.2.0"
 #define NAREPHON_VERSION_MAJOR 0
-#define NAREPHON_VERSION_MINOR 1
+#define NAREPHON_VERSION_MINOR 2
 #define NAREPHON_VERSION_PATCH 0
 
 /* Lengths, in elements. */
@@ -40,6 +42,7 @@ extern "C" {
 #define NAREPHON_PICTURE 40960
 #define NAREPHON_MAP 2560
 #define NAREPHON_DEFINITIONS 8192
+#define NAREPHON_SCREEN 12353
 
 /* Reply numbers. */
 enum narephon_reply {
@@ -56,7 +59,8 @@ enum narephon_reply {
     NAREPHON_OUT_OF_BOUNDS = 10,   /* the value is out of its bounds */
     NAREPHON_TOO_MANY_TILES = 11,  /* no map naming at most the number allowed draws the picture */
     NAREPHON_PACKING_BOUNDS = 12,  /* the number allowed is above 256, or the palette offset above 15 */
-    NAREPHON_NOT_RECORD = 13       /* the bytes are not a record of a lawful state */
+    NAREPHON_NOT_RECORD = 13,      /* the bytes are not a record of a lawful state */
+    NAREPHON_NO_FORM = 14          /* the file is not a screen, or the screen has no form as a file */
 };
 
 /* Below, "replies" are the refusals of a call in the order in which they are
@@ -107,6 +111,34 @@ uint8_t narephon_draw(const uint8_t *record, size_t record_len,
                       const uint8_t *ula, size_t ula_len,
                       const uint8_t *tile, size_t tile_len,
                       uint32_t line, uint16_t *dots, size_t dots_len);
+
+/* Reads a screen file (.scr) into `bank` and into the state in `record`;
+ * `bank_len` is NAREPHON_BANK. The file's length tells its form: 6,912 bytes are
+ * mode 0, 12,288 mode 2, and 12,289 mode 6 with the byte of port $FF at its end,
+ * whose low three bits are 6; each may have 64 ULAplus colours behind it. The
+ * bytes that the form names go to $0000 to $1AFF of the bank in mode 0, else to
+ * $0000 to $17FF and $2000 to $37FF. LoRes and ULANext go off, register $08 bit 2
+ * is set, port $FF becomes 0, 2 or the file's byte. With colours ULAplus goes on
+ * and has them as its registers, without it goes off; nothing else changes.
+ * `*colours` becomes the place in `file` of its 64 colours, 0 where it has none.
+ * Replies: 2, 13, 14.
+ * A refusal leaves `record` and `bank` as they were and sets `*colours` to 0. */
+uint8_t narephon_read_scr(uint8_t *record, size_t record_len,
+                          uint8_t *bank, size_t bank_len,
+                          const uint8_t *file, size_t file_len,
+                          uint32_t *colours);
+
+/* Writes the screen of the state in `record`, with the bytes of `bank`, as a
+ * screen file into the front of `file`, and sets `*length` to its number of
+ * bytes; those past it stay. `bank_len` is NAREPHON_BANK, `file_len`
+ * NAREPHON_SCREEN, the longest form. There is a form for modes 0, 2 and 6 with
+ * LoRes off; the ULAplus registers are its colours where ULAplus is on.
+ * Replies: 2, 3, 13, 14.
+ * A refusal leaves `file` as it was and sets `*length` to 0. */
+uint8_t narephon_write_scr(const uint8_t *record, size_t record_len,
+                           const uint8_t *bank, size_t bank_len,
+                           uint8_t *file, size_t file_len,
+                           uint32_t *length);
 
 /* Sets `*value` to the screen value of a nine-bit colour, 0 to 511: red x
  * 65,536 + green x 256 + blue. Replies: 10.

@@ -5,8 +5,10 @@
 #include <string.h>
 
 static uint8_t record[NAREPHON_RECORD], before[NAREPHON_RECORD], bank[NAREPHON_BANK];
+static uint8_t file[NAREPHON_SCREEN], written[NAREPHON_SCREEN], screen[NAREPHON_BANK];
 static uint8_t picture[NAREPHON_PICTURE], map[NAREPHON_MAP], definitions[NAREPHON_DEFINITIONS];
 static uint16_t dots[NAREPHON_DOTS];
+static uint32_t colours, length;
 static int failures;
 
 static void same(const char *what, uint32_t got, uint32_t wanted) {
@@ -65,6 +67,65 @@ static void pictures(void) {
     same("its count", count, 0);
 }
 
+static uint8_t read_screen(size_t record_len, size_t bank_len, size_t file_len) {
+    colours = 99;
+    return narephon_read_scr(record, record_len, screen, bank_len, file, file_len, &colours);
+}
+
+static uint8_t write_screen(size_t record_len, size_t bank_len, size_t file_len) {
+    length = 99;
+    return narephon_write_scr(record, record_len, screen, bank_len, written, file_len, &length);
+}
+
+/* A file of mode 6 with colours is read and written back; then its front as one of mode 0 without. */
+static void screens(void) {
+    uint8_t value = 99;
+    for (size_t i = 0; i < sizeof file; i++) file[i] = (uint8_t)(i % 251);
+    file[12288] = 0x26;
+    same("reset", narephon_reset(record, sizeof record), NAREPHON_DONE);
+    same("read", read_screen(sizeof record, sizeof screen, sizeof file), NAREPHON_DONE);
+    same("where its colours are", colours, 12289);
+    same("first part", (uint32_t)memcmp(screen, file, 6144), 0);
+    same("second part", (uint32_t)memcmp(screen + 0x2000, file + 6144, 6144), 0);
+    same("between them", screen[0x1800], 0);
+    same("port", narephon_read_port(record, sizeof record, 0xFF, &value), NAREPHON_DONE);
+    same("its byte", value, 0x26);
+    same("write", write_screen(sizeof record, sizeof screen, sizeof written), NAREPHON_DONE);
+    same("length", length, 12353);
+    same("the same file", (uint32_t)memcmp(file, written, sizeof file), 0);
+    same("read, mode 0", read_screen(sizeof record, sizeof screen, 6912), NAREPHON_DONE);
+    same("its colours", colours, 0);
+    written[6912] = 7;
+    same("write, mode 0", write_screen(sizeof record, sizeof screen, sizeof written), NAREPHON_DONE);
+    same("its length", length, 6912);
+    same("past it", written[6912], 7);
+}
+
+/* The refusals of screen files in their order; record, bank and file stay. */
+static void refused_screens(void) {
+    memset(screen, 7, sizeof screen);
+    same("LoRes", narephon_write_register(record, sizeof record, 0x15, 0x80), NAREPHON_DONE);
+    memcpy(before, record, sizeof record);
+    same("read, short bank", read_screen(3, 16383, 6911), NAREPHON_BANK_LENGTH);
+    same("its colours", colours, 0);
+    same("read, short record", read_screen(3, sizeof screen, 6911), NAREPHON_NOT_RECORD);
+    same("its colours", colours, 0);
+    same("read, short file", read_screen(sizeof record, sizeof screen, 6911), NAREPHON_NO_FORM);
+    same("its colours", colours, 0);
+    same("record kept", (uint32_t)memcmp(before, record, sizeof record), 0);
+    for (size_t i = 0; i < sizeof screen; i++) same("bank kept", screen[i], 7);
+    memset(written, 7, sizeof written);
+    same("write, short bank", write_screen(3, 16383, 12352), NAREPHON_BANK_LENGTH);
+    same("its length", length, 0);
+    same("write, short file", write_screen(3, sizeof screen, 12352), NAREPHON_BUFFER_LENGTH);
+    same("its length", length, 0);
+    same("write, short record", write_screen(3, sizeof screen, sizeof written), NAREPHON_NOT_RECORD);
+    same("its length", length, 0);
+    same("write, LoRes", write_screen(sizeof record, sizeof screen, sizeof written), NAREPHON_NO_FORM);
+    same("its length", length, 0);
+    for (size_t i = 0; i < sizeof written; i++) same("file kept", written[i], 7);
+}
+
 /* The version as text is that of its numbers. */
 static void version(void) {
     char text[32];
@@ -77,6 +138,8 @@ int main(void) {
     registers();
     records();
     pictures();
+    screens();
+    refused_screens();
     printf("c: %d failures\n", failures);
     return failures != 0;
 }

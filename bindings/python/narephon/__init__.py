@@ -1,11 +1,12 @@
-"""Narephon from Python: lines, registers, records and tile packing of ZX Spectrum Next screens.
+"""Narephon from Python: lines, registers, records, screen files and tile packing of ZX Spectrum Next screens.
 
 A member's whole video state is a record of ``RECORD`` bytes that the caller keeps. Every function takes bytes
-(``bytes``, ``bytearray`` or ``memoryview``) and gives ``bytes`` back; what it is given it never changes. A refused call
-raises ``Refused``, which holds the ``Reply`` and prints its number and sentence; where several refusals hold, it is the
-first in the order that a function names. An argument of another type raises ``TypeError``, and a number that the
-library's parameter cannot hold ``ValueError``, before the library is called. Nothing is kept between calls, so that
-calls may run side by side in threads.
+(``bytes``, ``bytearray`` or ``memoryview``) and gives ``bytes`` back; what it is given it never changes. The colours of
+a screen file alone are given as a part of the file itself, a ``memoryview``. A refused call raises ``Refused``, which
+holds the ``Reply`` and prints its number and sentence; where several refusals hold, it is the first in the order that a
+function names. An argument of another type raises ``TypeError``, and a number that the library's parameter cannot hold
+``ValueError``, before the library is called. Nothing is kept between calls, so that calls may run side by side in
+threads.
 
 The library is the file that the environment variable NAREPHON_LIBRARY names; else the one inside the package, as
 installed; else that of the checkout in which the package stands, as ``bindings/build`` makes it.
@@ -20,12 +21,12 @@ from . import _library, _png
 from .replies import Refused, Reply
 
 __all__ = [
-    "BANK", "DEFINITIONS", "DOTS", "MAP", "PICTURE", "RECORD", "BytesLike", "Packing", "Refused", "Reply",
-    "check_record", "draw", "fewest", "is_record", "next_frame", "pack", "preview_png", "read_port", "read_register",
-    "reset", "screen_value", "write_port", "write_register",
+    "BANK", "DEFINITIONS", "DOTS", "MAP", "PICTURE", "RECORD", "SCREEN", "BytesLike", "Packing", "Refused", "Reply",
+    "Screen", "check_record", "draw", "fewest", "is_record", "next_frame", "pack", "preview_png", "read_port",
+    "read_register", "read_scr", "reset", "screen_value", "write_port", "write_register", "write_scr",
 ]
 
-__version__ = "0.1.0"
+__version__ = "0.2.0"
 
 RECORD = 2150
 BANK = 16384
@@ -33,6 +34,7 @@ DOTS = 640
 PICTURE = 40960
 MAP = 2560
 DEFINITIONS = 8192
+SCREEN = 12353
 
 _LINES = 256
 _COLOURS = 512
@@ -50,12 +52,34 @@ class Packing(NamedTuple):
     definitions: bytes
 
 
+class Screen(NamedTuple):
+    """A screen file that was read: the record and the bank after it, and the part of the file with its 64 colours."""
+
+    record: bytes
+    bank: bytes
+    colours: memoryview
+
+
 def _lent(name: str, data: BytesLike) -> tuple[ctypes.Array[ctypes.c_uint8], int]:
     """A copy of the argument's bytes that a call may be lent, and their number; never a null pointer."""
     if not isinstance(data, (bytes, bytearray, memoryview)):
         raise TypeError(f"{name} must be bytes, a bytearray or a memoryview, not {type(data).__name__}")
     copy = bytes(data)
     return (ctypes.c_uint8 * max(len(copy), 1)).from_buffer_copy(copy or b"\0"), len(copy)
+
+
+def _viewed(file: BytesLike) -> memoryview:
+    """The bytes of an argument themselves, not a copy. A view of other items is one of its bytes."""
+    view = memoryview(file)
+    return view if view.format == "B" and view.ndim == 1 else view.cast("B")
+
+
+def _viewable(file: BytesLike) -> None:
+    """Raises ``TypeError`` for a view of larger items that leaves some out. No view is held on to: it would keep a
+    ``bytearray`` from being resized after a refusal."""
+    with memoryview(file) as view:
+        if not view.c_contiguous and (view.format, view.ndim) != ("B", 1):
+            raise TypeError("file must be bytes, or larger items with none left out")
 
 
 def _within(bits: int, **numbers: int) -> None:
@@ -190,6 +214,39 @@ def preview_png(record: BytesLike, ula: BytesLike, tile: BytesLike) -> bytes:
     pixels = [screen_value(colour).to_bytes(3, "big") for colour in range(_COLOURS)]
     rows = [b"".join([pixels[dot] for dot in dots]) for dots in lines]
     return _png.encoded(DOTS, [row for row in rows for _ in range(2)])
+
+
+def read_scr(record: BytesLike, bank: BytesLike, file: BytesLike) -> Screen:
+    """The record and the bank after a screen file (.scr) is read into them, and the file's ULAplus colours.
+
+    The file's length tells its form: 6,912 bytes are mode 0, 12,288 mode 2, and 12,289 mode 6 with the byte of port $FF
+    at its end, whose low three bits are 6; each may have 64 colours behind it. Of the bank, which has ``BANK`` bytes,
+    $0000 to $1AFF change in mode 0, and $0000 to $17FF and $2000 to $37FF in the others. In the record LoRes and ULANext go off, $08 bit 2 is set, and port $FF becomes 0, 2 or the file's byte; with
+    colours ULAplus goes on and has them as its registers, without it goes off. ``colours`` is a ``memoryview`` of the
+    file's own last 64 bytes, empty where it has none; a ``bytearray`` cannot be resized while it lives.
+
+    Raises ``Refused`` with reply 2, 13 or 14; record, bank and file stay as they were, as they do where it is read.
+    """
+    after, length = _lent("record", record)
+    filled, bank_length = _lent("bank", bank)
+    lent, file_length = _lent("file", file)
+    _viewable(file)
+    place = ctypes.c_uint32()
+    _answered(_narephon.narephon_read_scr(after, length, filled, bank_length, lent, file_length, ctypes.byref(place)))
+    return Screen(bytes(after), bytes(filled), _viewed(file)[place.value or file_length:])
+
+
+def write_scr(record: BytesLike, bank: BytesLike) -> bytes:
+    """The screen file of a record and a bank of ``BANK`` bytes, in the form of its mode, 0, 2 or 6, with LoRes off.
+
+    The ULAplus registers are its colours where ULAplus is on. Raises ``Refused`` with reply 2, 13 or 14; record and
+    bank stay as they were, as they do where it is written.
+    """
+    file, file_length = _lent("file", bytes(SCREEN))
+    length = ctypes.c_uint32()
+    _answered(_narephon.narephon_write_scr(*_lent("record", record), *_lent("bank", bank), file, file_length,
+                                           ctypes.byref(length)))
+    return bytes(file[:length.value])
 
 
 def pack(picture: BytesLike, allowed: int = 256, offset: int = 0) -> Packing:

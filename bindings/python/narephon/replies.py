@@ -10,7 +10,7 @@ _UNKNOWN = "a reply that this wrapper does not know: the library is newer than i
 class Reply(IntEnum):
     """The answer of a call: its number, and in ``sentence`` what it says.
 
-    A number from 14 to 255 is a reply too, one of a newer library, with a name of its own and a sentence that says so.
+    Any other byte is a reply too, one of a newer library, with a name of its own and a sentence that says so.
     """
 
     sentence: str
@@ -35,6 +35,7 @@ class Reply(IntEnum):
     TOO_MANY_TILES = 11, "no map naming at most the number allowed draws the picture"
     PACKING_BOUNDS = 12, "the number allowed is above 256, or the palette offset above 15"
     NOT_RECORD = 13, "the bytes are not a record of a lawful state"
+    NO_FORM = 14, "the file is not a screen, or the screen has no form as a file"
 
     @classmethod
     def _missing_(cls, value: object) -> Reply | None:

@@ -1,4 +1,4 @@
-"""What the tests share: the repository's files, Python run apart from this one, and a reader of PNG files."""
+"""What the tests share: the repository's files, Python run apart from this one, and readers of PNG and PPM files."""
 
 from __future__ import annotations
 
@@ -33,6 +33,18 @@ def sample() -> tuple[bytes, bytes, bytes]:
     """The example screen: its record, ULA bank and tile bank."""
     folder = REPOSITORY / "bindings" / "rust" / "compare" / "sample"
     return (folder / "record").read_bytes(), (folder / "ula").read_bytes(), (folder / "tile").read_bytes()
+
+
+def written(record: bytes, *writes: tuple[int, int]) -> bytes:
+    """The record after writes to registers."""
+    for register, value in writes:
+        record = narephon.write_register(record, register, value)
+    return record
+
+
+def outside(name: str) -> bytes:
+    """A screen file that another program made."""
+    return (REPOSITORY / "crates" / "sample_screens" / "data" / name).read_bytes()
 
 
 def checkout(folder: Path) -> Path:

@@ -1,4 +1,4 @@
-"""The bot and the README's example, run as a reader runs them."""
+"""The bot and the README's examples, run as a reader runs them."""
 
 from __future__ import annotations
 
@@ -6,7 +6,7 @@ import re
 import unittest
 
 import narephon
-from support import LIBRARY, PYTHON, InFolder, environment_of, pixels, python, sample
+from support import LIBRARY, PYTHON, InFolder, environment_of, outside, pixels, python, sample
 
 BOT = str(PYTHON / "examples" / "bot.py")
 
@@ -38,13 +38,17 @@ class Examples(InFolder):
         self.assertEqual((self.folder / "other.png").read_bytes(), (self.folder / "preview.png").read_bytes())
 
     def test_the_readme(self) -> None:
-        code = re.search(r"```python\n(.*?)```", (PYTHON / "README.md").read_text(encoding="utf-8"), re.DOTALL)
-        assert code is not None
+        examples = re.findall(r"```python\n(.*?)```", (PYTHON / "README.md").read_text(encoding="utf-8"), re.DOTALL)
         for name, data in zip(("record", "ula", "tile"), sample()):
             (self.folder / name).write_bytes(data)
-        run = python(self.folder, "-c", code[1], **self.environment)
-        self.assertEqual((run.returncode, run.stderr), (0, ""))
+        (self.folder / "screen.scr").write_bytes(outside("struct6_4.12289.scr"))
+        for code in examples:
+            run = python(self.folder, "-c", code, **self.environment)
+            self.assertEqual((run.returncode, run.stderr), (0, ""))
         self.assertEqual((self.folder / "preview.png").read_bytes(), narephon.preview_png(*sample()))
+        # Port byte $26: the ink is 4, bright green, and paper and border are 3, bright magenta.
+        shown = {pixel for row in pixels((self.folder / "screen.png").read_bytes()) for pixel in row}
+        self.assertEqual(shown, {0x00FF00, 0xFF00FF})
 
 
 if __name__ == "__main__":

@@ -148,9 +148,9 @@ class Header(Case):
         self.assertEqual(stated, [narephon.__version__])
 
     def test_the_lengths(self) -> None:
-        stated = re.findall(r"^#define NAREPHON_(RECORD|BANK|DOTS|PICTURE|MAP|DEFINITIONS) (\d+)$", self.header,
+        stated = re.findall(r"^#define NAREPHON_(RECORD|BANK|DOTS|PICTURE|MAP|DEFINITIONS|SCREEN) (\d+)$", self.header,
                             re.MULTILINE)
-        self.assertEqual(len(stated), 6)
+        self.assertEqual(len(stated), 7)
         for name, length in stated:
             self.assertEqual(getattr(narephon, name), int(length), name)
 

@@ -6,16 +6,9 @@ import unittest
 
 import narephon
 from narephon import Reply
-from support import REPOSITORY, Case, pixels, sample
+from support import REPOSITORY, Case, pixels, sample, written
 
 BANK = bytes(16384)
-
-
-def written(record: bytes, *writes: tuple[int, int]) -> bytes:
-    """The record after writes to registers."""
-    for register, value in writes:
-        record = narephon.write_register(record, register, value)
-    return record
 
 
 def every_colour() -> tuple[bytes, bytes]:

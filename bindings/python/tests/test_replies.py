@@ -21,15 +21,15 @@ class Replies(Case):
 
     def test_a_reply_of_a_newer_library(self) -> None:
         library = mock.Mock()
-        library.narephon_next_frame.return_value = 14
+        library.narephon_next_frame.return_value = 255
         with mock.patch.object(narephon, "_narephon", library), self.assertRaises(Refused) as caught:
             narephon.next_frame(bytes(2150))
-        self.assertEqual(str(caught.exception), f"refused 14: {UNKNOWN}")
+        self.assertEqual(str(caught.exception), f"refused 255: {UNKNOWN}")
         reply = caught.exception.reply
         self.assertIsInstance(reply, Reply)
-        self.assertEqual((reply, reply.name, reply.sentence), (14, "UNKNOWN_14", UNKNOWN))
-        self.assertEqual(reply, Reply(14))
-        self.assertEqual(len(Reply), 14)
+        self.assertEqual((reply, reply.name, reply.sentence), (255, "UNKNOWN_255", UNKNOWN))
+        self.assertEqual(reply, Reply(255))
+        self.assertEqual(len(Reply), 15)
 
     def test_what_is_no_reply(self) -> None:
         for number in (-1, 256, "10", None):
@@ -37,7 +37,7 @@ class Replies(Case):
                 Reply(number)  # type: ignore[call-arg]
 
     def test_a_refusal_can_be_pickled(self) -> None:
-        for number in (10, 14):
+        for number in (10, 255):
             again = pickle.loads(pickle.dumps(Refused(Reply(number))))
             self.assertEqual((again.reply, str(again)), (number, str(Refused(Reply(number)))))
 

@@ -1,4 +1,4 @@
-//! Narephon from Rust: lines, registers, records and tile packing of ZX Spectrum Next screens.
+//! Narephon from Rust: lines, registers, records, screen files and tile packing of ZX Spectrum Next screens.
 //!
 //! A member's whole video state is a record of [`RECORD`] bytes that the caller keeps and lends. Every call answers on
 //! every input: `Ok`, or the [`Reply`] that refuses it and leaves every lent buffer as it was. Where several refusals
@@ -41,6 +41,8 @@ pub const PICTURE: usize = 40960;
 pub const MAP: usize = 2560;
 /// Bytes of 256 definitions of 32 bytes.
 pub const DEFINITIONS: usize = 8192;
+/// Bytes of the longest screen file, and of the buffer that one is written into.
+pub const SCREEN: usize = 12353;
 
 /// The record of the reset state.
 pub fn reset() -> [u8; RECORD] {
@@ -136,6 +138,71 @@ pub fn draw(
         )
     };
     answered(reply, ())
+}
+
+/// Reads a screen file (`.scr`) into a bank of [`BANK`] bytes and into the state in a record. What it gives is the part of
+/// the file that holds its 64 ULAplus colours, empty where it has none.
+///
+/// The file's length tells its form: 6,912 bytes are mode 0, 12,288 mode 2, and 12,289 mode 6 with the byte of port `0x00FF`
+/// at its end, whose low three bits are 6; each may have 64 colours behind it. Of the bank, bytes 0x0000 to 0x1AFF change in
+/// mode 0, and 0x0000 to 0x17FF and 0x2000 to 0x37FF in the others. LoRes and ULANext go off, register `0x08` bit 2 is set,
+/// and port `0x00FF` becomes 0, 2 or the file's byte. With colours ULAplus goes on and has them as its registers, without it
+/// goes off. Nothing else changes.
+///
+/// Refused by 2, 13 or 14, it leaves record and bank as they were.
+///
+/// ```
+/// let (mut record, mut bank) = (narephon::reset(), [0; narephon::BANK]);
+/// let mut file = [0; 6976];
+/// file[6912] = 28;
+/// let colours = narephon::read_scr(&mut record, &mut bank, &file)?;
+/// assert_eq!((colours.len(), colours[0]), (64, 28));
+/// let mut written = [0; narephon::SCREEN];
+/// assert_eq!(narephon::write_scr(&record, &bank, &mut written)?, file);
+/// # Ok::<(), narephon::Reply>(())
+/// ```
+pub fn read_scr<'a>(record: &mut [u8], bank: &mut [u8], file: &'a [u8]) -> Result<&'a [u8], Reply> {
+    let mut colours = 0;
+    // SAFETY: each pointer and length are those of one live buffer, and those for writing are borrowed alone.
+    let reply = unsafe {
+        raw::narephon_read_scr(
+            record.as_mut_ptr(),
+            record.len(),
+            bank.as_mut_ptr(),
+            bank.len(),
+            file.as_ptr(),
+            file.len(),
+            &mut colours,
+        )
+    };
+    // No colours are at 0: a screen stands before them.
+    let part = match colours {
+        0 => &file[..0],
+        place => &file[place as usize..],
+    };
+    answered(reply, part)
+}
+
+/// Writes the screen of the state in a record, with the bytes of a bank, as a screen file into the front of `file`, which
+/// has [`SCREEN`] bytes, and gives that part of it. What is past it stays. The form is that of modes 0, 2 and 6 with LoRes
+/// off; the ULAplus registers are its colours where ULAplus is on.
+///
+/// Refused by 2, 3, 13 or 14, it leaves `file` as it was.
+pub fn write_scr<'a>(record: &[u8], bank: &[u8], file: &'a mut [u8]) -> Result<&'a [u8], Reply> {
+    let mut length = 0;
+    // SAFETY: as in `read_scr`.
+    let reply = unsafe {
+        raw::narephon_write_scr(
+            record.as_ptr(),
+            record.len(),
+            bank.as_ptr(),
+            bank.len(),
+            file.as_mut_ptr(),
+            file.len(),
+            &mut length,
+        )
+    };
+    answered(reply, &file[..length as usize])
 }
 
 /// A nine-bit colour, 0 to 511, as red × 65,536 + green × 256 + blue.

@@ -31,6 +31,24 @@ extern "C" {
         dots: *mut u16,
         dots_len: usize,
     ) -> u8;
+    pub fn narephon_read_scr(
+        record: *mut u8,
+        record_len: usize,
+        bank: *mut u8,
+        bank_len: usize,
+        file: *const u8,
+        file_len: usize,
+        colours: *mut u32,
+    ) -> u8;
+    pub fn narephon_write_scr(
+        record: *const u8,
+        record_len: usize,
+        bank: *const u8,
+        bank_len: usize,
+        file: *mut u8,
+        file_len: usize,
+        length: *mut u32,
+    ) -> u8;
     pub fn narephon_screen_value(colour: u32, value: *mut u32) -> u8;
     pub fn narephon_pack(
         picture: *const u8,

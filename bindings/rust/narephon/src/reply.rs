@@ -35,12 +35,14 @@ pub enum Reply {
     PackingBounds,
     /// 13: the bytes are not a record of a lawful state.
     NotRecord,
+    /// 14: the file is not a screen, or the screen has no form as a file.
+    NoForm,
     /// Any other number: the library is newer than this wrapper.
     Unknown(u8),
 }
 
 /// The replies with a number of their own.
-const KNOWN: [Reply; 13] = [
+const KNOWN: [Reply; 14] = [
     Reply::NoLine,
     Reply::BankLength,
     Reply::BufferLength,
@@ -54,6 +56,7 @@ const KNOWN: [Reply; 13] = [
     Reply::TooManyTiles,
     Reply::PackingBounds,
     Reply::NotRecord,
+    Reply::NoForm,
 ];
 
 impl Reply {
@@ -73,6 +76,7 @@ impl Reply {
             Reply::TooManyTiles => 11,
             Reply::PackingBounds => 12,
             Reply::NotRecord => 13,
+            Reply::NoForm => 14,
             Reply::Unknown(number) => number,
         }
     }
@@ -95,6 +99,7 @@ impl Reply {
                 "the number allowed is above 256, or the palette offset above 15"
             }
             Reply::NotRecord => "the bytes are not a record of a lawful state",
+            Reply::NoForm => "the file is not a screen, or the screen has no form as a file",
             Reply::Unknown(_) => {
                 "a reply that this wrapper does not know: the library is newer than it"
             }
@@ -135,7 +140,8 @@ mod tests {
         for number in 1..=255 {
             let reply = answered(number, 5).expect_err("a refusal");
             assert_eq!(reply.number(), number);
-            assert_eq!(reply == Reply::Unknown(number), number > 13);
+            let known = usize::from(number) <= KNOWN.len();
+            assert_eq!(reply != Reply::Unknown(number), known);
         }
     }
 
@@ -144,8 +150,8 @@ mod tests {
         let bounds = "refused 10: the value is out of its bounds";
         assert_eq!(Reply::OutOfBounds.to_string(), bounds);
         let unknown =
-            "refused 14: a reply that this wrapper does not know: the library is newer than it";
-        assert_eq!(Reply::of(14).to_string(), unknown);
+            "refused 255: a reply that this wrapper does not know: the library is newer than it";
+        assert_eq!(Reply::of(255).to_string(), unknown);
     }
 
     /// The C header has the same sentence beside each number, and no number more.
@@ -162,6 +168,6 @@ mod tests {
         for reply in KNOWN {
             assert_eq!(said(reply.number()), Some(reply.sentence()));
         }
-        assert_eq!(said(14), None);
+        assert_eq!(said(KNOWN.len() as u8 + 1), None);
     }
 }

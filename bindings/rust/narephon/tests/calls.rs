@@ -94,6 +94,72 @@ fn no_map_draws() {
     assert_eq!(narephon::fewest(&picture), Err(Reply::TooManyTiles));
 }
 
+/// A file of a length, with a port byte of mode 6 where one belongs.
+fn screen_file(length: usize) -> Vec<u8> {
+    let mut file: Vec<u8> = (0..length).map(|at| (at % 251) as u8).collect();
+    if length % 64 == 1 {
+        file[12_288] = 0xEE;
+    }
+    file
+}
+
+/// Each form read and written back. The colours are the file's own bytes.
+#[test]
+fn screen_files() {
+    for (length, screen, port) in [
+        (6_912, 6_912, 0),
+        (6_976, 6_912, 0),
+        (12_288, 12_288, 2),
+        (12_352, 12_288, 2),
+        (12_289, 12_289, 0xEE),
+        (12_353, 12_289, 0xEE),
+    ] {
+        let file = screen_file(length);
+        let (mut record, mut bank) = (narephon::reset(), [0xFF; narephon::BANK]);
+        let colours = narephon::read_scr(&mut record, &mut bank, &file).expect("a screen");
+        let own = &file[screen..];
+        assert_eq!(colours, own);
+        assert!(own.is_empty() || std::ptr::eq(colours, own));
+        assert_eq!(narephon::read_port(&record, 0xFF), Ok(port));
+        let first = if screen == 6_912 { 6_912 } else { 6_144 };
+        assert!(bank[..first] == file[..first]);
+        assert!(bank[first..8_192].iter().all(|&byte| byte == 0xFF));
+        let mut written = [7; narephon::SCREEN];
+        let whole = narephon::write_scr(&record, &bank, &mut written);
+        assert!(whole == Ok(&file[..]));
+        assert!(written[length..].iter().all(|&byte| byte == 7));
+    }
+}
+
+#[test]
+fn refused_screen_files() {
+    let (mut record, mut bank) = (narephon::reset(), [0xFF; narephon::BANK]);
+    let kept = record;
+    let mut file = screen_file(12_289);
+    file[12_288] = 0xEF;
+    let port = narephon::read_scr(&mut record, &mut bank, &file);
+    assert_eq!(port, Err(Reply::NoForm));
+    let empty = narephon::read_scr(&mut record, &mut bank, &[]);
+    assert_eq!(empty, Err(Reply::NoForm));
+    let short = narephon::read_scr(&mut record[1..], &mut bank, &[]);
+    assert_eq!(short, Err(Reply::NotRecord));
+    let bank_length = narephon::read_scr(&mut record[1..], &mut bank[1..], &[]);
+    assert_eq!(bank_length, Err(Reply::BankLength));
+    assert!(record == kept && bank == [0xFF; narephon::BANK]);
+    let mut written = [7; narephon::SCREEN];
+    assert_eq!(narephon::write_register(&mut record, 0x15, 0x80), Ok(()));
+    for (record, bank, first, reply) in [
+        (&record[..], &bank[..], 0, Reply::NoForm),
+        (&record[1..], &bank[..], 0, Reply::NotRecord),
+        (&record[1..], &bank[..], 1, Reply::BufferLength),
+        (&record[1..], &bank[1..], 1, Reply::BankLength),
+    ] {
+        let answer = narephon::write_scr(record, bank, &mut written[first..]);
+        assert_eq!(answer, Err(reply));
+    }
+    assert!(written == [7; narephon::SCREEN]);
+}
+
 /// The wrapper and the C header have one version.
 #[test]
 fn one_version() {
@@ -127,8 +193,8 @@ fn two_members() {
     }
 }
 
-/// A member's screen, all lines, and how many tiles a picture of hers needs.
-fn screen(member: u8) -> (Vec<u16>, u32) {
+/// A member's screen, all lines, how many tiles a picture of hers needs, and her screen as a file.
+fn screen(member: u8) -> (Vec<u16>, u32, Vec<u8>) {
     let mut record = narephon::reset();
     for (number, value) in [(0x14, 1), (0x43, 0), (0x40, 0), (0x6B, 0x80), (0x6F, 16)] {
         assert_eq!(narephon::write_register(&mut record, number, value), Ok(()));
@@ -149,7 +215,20 @@ fn screen(member: u8) -> (Vec<u16>, u32) {
         .collect();
     let (mut map, mut definitions) = ([0; narephon::MAP], [0; narephon::DEFINITIONS]);
     let count = narephon::pack(&picture, 256, 0, &mut map, &mut definitions);
-    (dots, count.expect("few classes"))
+    (dots, count.expect("few classes"), kept_file(&record, &bank))
+}
+
+/// A screen as a file, which reads back into another bank.
+fn kept_file(record: &[u8], bank: &[u8]) -> Vec<u8> {
+    let mut file = [0; narephon::SCREEN];
+    let written = narephon::write_scr(record, bank, &mut file).expect("mode 0");
+    let (mut other, mut empty) = (narephon::reset(), [0; narephon::BANK]);
+    assert_eq!(
+        narephon::read_scr(&mut other, &mut empty, written),
+        Ok(&[][..])
+    );
+    assert!(empty[..6_912] == bank[..6_912]);
+    written.to_vec()
 }
 
 /// Calls on separate buffers may run side by side: what each thread gets is what its member gets alone.
