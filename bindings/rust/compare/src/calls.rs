@@ -4,14 +4,15 @@
 use crate::lent::{same, same_items, Lent};
 use crate::seen::{Call, Seen};
 use crate::states::record_of;
-use model::reply::{DONE, NOT_A_RECORD, WRONG_BUFFER};
-use model::State;
+use model::reply::{DONE, NOT_A_RECORD, NO_FORM, WRONG_BUFFER};
+use model::scr::{lent_read_scr, lent_write_scr};
+use model::{State, SCREEN_LENGTH};
 use narephon::raw;
 
 /// What came of a comparison: a reply that both gave, or what differs.
 pub type Checked = Result<u8, String>;
 
-/// A record to lend.
+/// Bytes to lend.
 pub fn lend(record: &[u8]) -> Lent<u8> {
     Lent::new(record, 0x5A)
 }
@@ -283,6 +284,151 @@ fn raw_draw(record: &mut Lent<u8>, banks: &mut Banks, line: u32, dots: &mut Lent
             dots.count(),
         )
     }
+}
+
+/// A screen file read into a bank and into the state in a record.
+pub fn read_scr(
+    record: &mut Lent<u8>,
+    bank: &mut Lent<u8>,
+    file: &[u8],
+    seen: &mut Seen,
+) -> Checked {
+    let (_, state) = model::read_record(record.items());
+    let reply = compared_reading(record, bank, file)
+        .map_err(|what| format!("read_scr of {} bytes: {what}", file.len()))?;
+    seen.reply(Call::ReadScr, reply);
+    match reply {
+        DONE => seen.screen_read(&state, file.len()),
+        NO_FORM => seen.screen_unread(file.len()),
+        _ => {}
+    }
+    Ok(reply)
+}
+
+fn compared_reading(record: &mut Lent<u8>, bank: &mut Lent<u8>, file: &[u8]) -> Checked {
+    let (mut wanted, mut wanted_bank) = (record.items().to_vec(), bank.items().to_vec());
+    let (mut copy, mut bank_copy) = (wanted.clone(), wanted_bank.clone());
+    let (reply, place) = lent_read_scr(&mut wanted, &mut wanted_bank, file);
+    let (got, colours) = raw_reading(record, bank, file, !place)?;
+    same("reply", got, reply)?;
+    same("place of the colours", colours, place)?;
+    record.check("record", &wanted)?;
+    bank.check("bank", &wanted_bank)?;
+    let answer = narephon::read_scr(&mut copy, &mut bank_copy, file);
+    same("wrapper's reply", number(&answer), reply)?;
+    same_items("wrapper's record", &copy, &wanted)?;
+    same_items("wrapper's bank", &bank_copy, &wanted_bank)?;
+    let part = answer.unwrap_or(&[]);
+    let own = match place {
+        0 => &[],
+        place => &file[place as usize..],
+    };
+    same_items("wrapper's colours", part, own)?;
+    if !std::ptr::eq(part, own) && !own.is_empty() {
+        return Err("the wrapper's colours are not the file's own".to_string());
+    }
+    Ok(reply)
+}
+
+/// The reply and the place, once the file is seen to stay. The place is another number before.
+fn raw_reading(
+    record: &mut Lent<u8>,
+    bank: &mut Lent<u8>,
+    file: &[u8],
+    before: u32,
+) -> Result<(u8, u32), String> {
+    let mut lent_file = lend(file);
+    let mut colours = before;
+    // SAFETY: each pointer and length are those of one live buffer, and none overlaps another.
+    let got = unsafe {
+        raw::narephon_read_scr(
+            record.pointer(),
+            record.count(),
+            bank.pointer(),
+            bank.count(),
+            lent_file.pointer(),
+            lent_file.count(),
+            &mut colours,
+        )
+    };
+    lent_file.check("file", file)?;
+    Ok((got, colours))
+}
+
+/// A screen written into a buffer of the right length; the reply, and the file where there is one.
+pub fn write_scr(
+    record: &mut Lent<u8>,
+    bank: &mut Lent<u8>,
+    seen: &mut Seen,
+) -> Result<(u8, Vec<u8>), String> {
+    write_scr_into(record, bank, SCREEN_LENGTH, seen)
+}
+
+/// The same into a buffer of `length` bytes.
+pub fn write_scr_into(
+    record: &mut Lent<u8>,
+    bank: &mut Lent<u8>,
+    length: usize,
+    seen: &mut Seen,
+) -> Result<(u8, Vec<u8>), String> {
+    let (_, state) = model::read_record(record.items());
+    let (reply, file) = compared_writing(record, bank, length)
+        .map_err(|what| format!("write_scr into {length} bytes: {what}"))?;
+    seen.reply(Call::WriteScr, reply);
+    match reply {
+        DONE => seen.screen_written(&state, file.len()),
+        NO_FORM => seen.screen_unwritten(&state),
+        _ => {}
+    }
+    Ok((reply, file))
+}
+
+fn compared_writing(
+    record: &mut Lent<u8>,
+    bank: &mut Lent<u8>,
+    length: usize,
+) -> Result<(u8, Vec<u8>), String> {
+    let (before, bank_before) = (record.items().to_vec(), bank.items().to_vec());
+    let blank = vec![0xAA; length];
+    let mut wanted = blank.clone();
+    let (reply, count) = lent_write_scr(&before, &bank_before, &mut wanted);
+    let mut file = lend(&blank);
+    let (got, written) = raw_writing(record, bank, &mut file, !count);
+    same("reply", got, reply)?;
+    same("length", written, count)?;
+    file.check("file", &wanted)?;
+    record.check("record", &before)?;
+    bank.check("bank", &bank_before)?;
+    let mut copy = blank;
+    let answer = narephon::write_scr(&before, &bank_before, &mut copy);
+    same("wrapper's reply", number(&answer), reply)?;
+    let front = wanted[..count as usize].to_vec();
+    same_items("wrapper's file", answer.unwrap_or(&[]), &front)?;
+    same_items("wrapper's buffer", &copy, &wanted)?;
+    Ok((reply, front))
+}
+
+/// The reply and the length, which is another number before.
+fn raw_writing(
+    record: &mut Lent<u8>,
+    bank: &mut Lent<u8>,
+    file: &mut Lent<u8>,
+    before: u32,
+) -> (u8, u32) {
+    let mut length = before;
+    // SAFETY: as above; the file and the length overlap nothing.
+    let got = unsafe {
+        raw::narephon_write_scr(
+            record.pointer(),
+            record.count(),
+            bank.pointer(),
+            bank.count(),
+            file.pointer(),
+            file.count(),
+            &mut length,
+        )
+    };
+    (got, length)
 }
 
 pub fn screen_value(colour: u32, seen: &mut Seen) -> Checked {

@@ -1,18 +1,20 @@
 //! The comparison's jobs. A job is so many rounds, and a round is told by its seed alone.
 
 use crate::calls::{
-    check_record, draw, fewest, lend, next_frame, pack, read_port, read_register, reset,
-    screen_value, write_port, write_register, Banks, Packing,
+    check_record, draw, fewest, lend, next_frame, pack, read_port, read_register, read_scr, reset,
+    screen_value, write_port, write_register, write_scr, Banks, Packing,
 };
 use crate::lent::{same, same_items, Lent};
 use crate::pictures;
 use crate::random::Random;
+use crate::screen_jobs;
+use crate::screens::any_file;
 use crate::seen::Seen;
 use crate::states::{bank, damage, hold, lawful, lead, line, record_of, value, SETTINGS};
 use model::reply::DONE;
-use model::{State, DOTS, RECORD_LENGTH};
+use model::{State, BANK_LENGTH, DOTS, RECORD_LENGTH, SCREEN_LENGTH};
 
-type Done = Result<(), String>;
+pub type Done = Result<(), String>;
 
 pub struct Job {
     pub name: &'static str,
@@ -22,7 +24,7 @@ pub struct Job {
 
 /// Every job. Rounds of neighbouring seeds take register numbers, port numbers, bytes, lengths and settings in turn, so
 /// the rounds of a job are multiples of those where each is to be met.
-pub const JOBS: [Job; 11] = [
+pub const JOBS: [Job; 16] = [
     Job {
         name: "packings",
         rounds: 12 * pictures::KINDS,
@@ -77,6 +79,31 @@ pub const JOBS: [Job; 11] = [
         name: "screen values and packing bounds",
         rounds: 300,
         run: bounds,
+    },
+    Job {
+        name: "screen files",
+        rounds: 6 * 500,
+        run: screen_jobs::files,
+    },
+    Job {
+        name: "screen lengths",
+        rounds: screen_jobs::FILE_LENGTHS,
+        run: screen_jobs::lengths,
+    },
+    Job {
+        name: "screen port bytes",
+        rounds: 256,
+        run: screen_jobs::port_bytes,
+    },
+    Job {
+        name: "written screens",
+        rounds: 16 * SETTINGS,
+        run: screen_jobs::written,
+    },
+    Job {
+        name: "refused screens",
+        rounds: 8_000,
+        run: screen_jobs::refused,
     },
 ];
 
@@ -179,7 +206,7 @@ fn script_step(
     seen: &mut Seen,
 ) -> Done {
     let (number, port, value) = (register(random), port(random), value(random));
-    let (reply, (wanted, after)) = match random.below(32) {
+    let (reply, (wanted, after)) = match random.below(34) {
         0..=15 => (
             write_register(record, number, value, seen)?,
             model::write_register(state, number, value),
@@ -197,11 +224,32 @@ fn script_step(
             (model::read_port(state, port).0, state.clone()),
         ),
         29 | 30 => (next_frame(record, seen)?, model::next_frame(state)),
+        31 | 32 => screen_step(random, record, state, seen)?,
         _ if random.one_in(8) => (reset(record, seen)?, (DONE, State::reset())),
         _ => return Ok(()),
     };
     *state = after;
     same("reply to the state kept", reply, wanted)
+}
+
+/// A screen file read into the record and the state, or written of both; the reply, and what the model makes of the state.
+fn screen_step(
+    random: &mut Random,
+    record: &mut Lent<u8>,
+    state: &State,
+    seen: &mut Seen,
+) -> Result<(u8, (u8, State)), String> {
+    let mut bytes = bank(random);
+    let mut lent_bank = lend(&bytes);
+    if random.one_in(2) {
+        let (reply, _) = write_scr(record, &mut lent_bank, seen)?;
+        let (wanted, _) = model::write_scr(state, &bytes, &mut [0; SCREEN_LENGTH]);
+        return Ok((reply, (wanted, state.clone())));
+    }
+    let file = any_file(random);
+    let reply = read_scr(record, &mut lent_bank, &file, seen)?;
+    let (wanted, after, _) = model::read_scr(state, &mut bytes, &file);
+    Ok((reply, (wanted, after)))
 }
 
 /// Every call on the same bytes, which may be no record.
@@ -218,8 +266,11 @@ fn every_call(random: &mut Random, bytes: &[u8], seen: &mut Seen) -> Done {
     let (number, written) = (port(random), value(random));
     write_port(&mut record, number, written, seen)?;
     record.set(bytes);
-    let mut banks = Banks::one(vec![random.byte(); 16_384]);
+    let mut banks = Banks::one(vec![random.byte(); BANK_LENGTH]);
     draw(&mut record, &mut banks, line(random), DOTS, seen)?;
+    let mut bank = lend(&vec![random.byte(); BANK_LENGTH]);
+    write_scr(&mut record, &mut bank, seen)?;
+    read_scr(&mut record, &mut bank, &any_file(random), seen)?;
     reset(&mut record, seen)?;
     Ok(())
 }
@@ -238,6 +289,7 @@ fn record_bytes(seed: u64, seen: &mut Seen) -> Done {
     let place = (seed % RECORD_LENGTH as u64) as usize;
     let mut bytes = record_of(&lawful(&mut random));
     let mut record = lend(&bytes);
+    let (mut bank, file) = (lend(&bank(&mut random)), any_file(&mut random));
     let some = [0, 1, 2, 3, 127, 128, 254, 255];
     for byte in 0..=255 {
         if place >= 102 && !some.contains(&byte) {
@@ -248,10 +300,12 @@ fn record_bytes(seed: u64, seen: &mut Seen) -> Done {
         check_record(&mut record, seen)?;
         let (number, port) = (register(&mut random), port(&mut random));
         let written = value(&mut random);
-        match random.below(4) {
+        match random.below(6) {
             0 => write_register(&mut record, number, written, seen)?,
             1 => write_port(&mut record, port, written, seen)?,
             2 => read_register(&mut record, number, seen)?,
+            3 => write_scr(&mut record, &mut bank, seen)?.0,
+            4 => read_scr(&mut record, &mut bank, &file, seen)?,
             _ => read_port(&mut record, port, seen)?,
         };
         record.set(&bytes);
@@ -306,7 +360,7 @@ fn whole_screens(seed: u64, seen: &mut Seen) -> Done {
 }
 
 /// A bank of the right length or another.
-fn any_bank(random: &mut Random) -> Vec<u8> {
+pub fn any_bank(random: &mut Random) -> Vec<u8> {
     let other = random.pick(&[0, 1, 6_912, 16_383, 16_385, 32_768]);
     let length = if random.one_in(4) { other } else { 16_384 };
     vec![random.byte(); length]

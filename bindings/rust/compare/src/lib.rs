@@ -5,6 +5,8 @@ pub mod jobs;
 pub mod lent;
 pub mod pictures;
 pub mod random;
+pub mod screen_jobs;
+pub mod screens;
 pub mod seen;
 pub mod states;
 pub mod timing;

@@ -16,6 +16,8 @@ pub enum Call {
     ReadRegister,
     ReadPort,
     Draw,
+    ReadScr,
+    WriteScr,
     ScreenValue,
     Pack,
     Fewest,
@@ -23,7 +25,7 @@ pub enum Call {
 
 /// The replies that each call can give. No call gives 4: an unlawful state can only come in a record, and such a record
 /// is 13.
-const POSSIBLE: [(Call, &[u8]); 11] = [
+const POSSIBLE: [(Call, &[u8]); 13] = [
     (Call::Reset, &[0, 3]),
     (Call::CheckRecord, &[0, 13]),
     (Call::NextFrame, &[0, 13]),
@@ -32,10 +34,55 @@ const POSSIBLE: [(Call, &[u8]); 11] = [
     (Call::ReadRegister, &[0, 9, 13]),
     (Call::ReadPort, &[0, 9, 13]),
     (Call::Draw, &[0, 1, 2, 3, 5, 6, 7, 8, 13]),
+    (Call::ReadScr, &[0, 2, 13, 14]),
+    (Call::WriteScr, &[0, 2, 3, 13, 14]),
     (Call::ScreenValue, &[0, 10]),
     (Call::Pack, &[0, 3, 11, 12]),
     (Call::Fewest, &[0, 3, 11]),
 ];
+
+/// The replies are 0 to 14.
+const REPLIES: u8 = 15;
+
+/// What a screen file was: a form that was read or written, by mode and colours, what a refusal by 14 was for, or what the
+/// state was besides.
+const SCREENS: [(Call, &str); 22] = [
+    (Call::ReadScr, "mode 0"),
+    (Call::ReadScr, "mode 0 with colours"),
+    (Call::ReadScr, "mode 2"),
+    (Call::ReadScr, "mode 2 with colours"),
+    (Call::ReadScr, "mode 6"),
+    (Call::ReadScr, "mode 6 with colours"),
+    (Call::ReadScr, "LoRes was on"),
+    (Call::ReadScr, "ULANext was on"),
+    (Call::ReadScr, "a half was held"),
+    (Call::ReadScr, "14 for its length"),
+    (Call::ReadScr, "14 for its port byte"),
+    (Call::WriteScr, "mode 0"),
+    (Call::WriteScr, "mode 0 with colours"),
+    (Call::WriteScr, "mode 2"),
+    (Call::WriteScr, "mode 2 with colours"),
+    (Call::WriteScr, "mode 6"),
+    (Call::WriteScr, "mode 6 with colours"),
+    (Call::WriteScr, "ULANext was on"),
+    (Call::WriteScr, "the ULA was off"),
+    (Call::WriteScr, "14 for LoRes"),
+    (Call::WriteScr, "14 for mode 1"),
+    (Call::WriteScr, "14 for no mode"),
+];
+
+/// The form of a file that was read or written, by its length.
+fn form(length: usize) -> &'static str {
+    match length {
+        6_912 => "mode 0",
+        6_976 => "mode 0 with colours",
+        12_288 => "mode 2",
+        12_352 => "mode 2 with colours",
+        12_289 => "mode 6",
+        12_353 => "mode 6 with colours",
+        _ => "no form",
+    }
+}
 
 const MODES: [(Mode, &str); 6] = [
     (Mode::Zero, "0"),
@@ -84,6 +131,7 @@ fn drawable(mode: Mode, tiles: Tiles) -> bool {
 pub struct Seen {
     replies: BTreeMap<(Call, u8), u64>,
     lines: BTreeMap<(Mode, Colouring, Tiles), u64>,
+    screens: BTreeMap<(Call, &'static str), u64>,
 }
 
 impl Seen {
@@ -97,6 +145,54 @@ impl Seen {
         *self.lines.entry(kind).or_default() += 1;
     }
 
+    fn screen(&mut self, call: Call, what: &'static str) {
+        *self.screens.entry((call, what)).or_default() += 1;
+    }
+
+    /// A file of so many bytes that was read, and the state before.
+    pub fn screen_read(&mut self, state: &State, length: usize) {
+        self.screen(Call::ReadScr, form(length));
+        for (so, what) in [
+            (state.lores(), "LoRes was on"),
+            (state.ulanext(), "ULANext was on"),
+            (state.held, "a half was held"),
+        ] {
+            if so {
+                self.screen(Call::ReadScr, what);
+            }
+        }
+    }
+
+    /// A file of so many bytes that was refused by 14. One of the six lengths is refused for its port byte alone.
+    pub fn screen_unread(&mut self, length: usize) {
+        let what = match form(length) {
+            "no form" => "14 for its length",
+            _ => "14 for its port byte",
+        };
+        self.screen(Call::ReadScr, what);
+    }
+
+    /// A file of so many bytes that was written of a state.
+    pub fn screen_written(&mut self, state: &State, length: usize) {
+        self.screen(Call::WriteScr, form(length));
+        if state.ulanext() {
+            self.screen(Call::WriteScr, "ULANext was on");
+        }
+        if !state.ula_on() {
+            self.screen(Call::WriteScr, "the ULA was off");
+        }
+    }
+
+    /// A state that was refused by 14.
+    pub fn screen_unwritten(&mut self, state: &State) {
+        let what = match state.timex % 8 {
+            _ if state.lores() => "14 for LoRes",
+            1 => "14 for mode 1",
+            _ => "14 for no mode",
+        };
+        self.screen(Call::WriteScr, what);
+    }
+
     pub fn add(&mut self, other: &Seen) {
         for (&key, count) in &other.replies {
             *self.replies.entry(key).or_default() += count;
@@ -104,6 +200,13 @@ impl Seen {
         for (&key, count) in &other.lines {
             *self.lines.entry(key).or_default() += count;
         }
+        for (&key, count) in &other.screens {
+            *self.screens.entry(key).or_default() += count;
+        }
+    }
+
+    fn screens_of(&self, kind: (Call, &'static str)) -> u64 {
+        self.screens.get(&kind).copied().unwrap_or(0)
     }
 
     fn replies_of(&self, call: Call, reply: u8) -> u64 {
@@ -128,6 +231,17 @@ impl Seen {
                 }
             }
         }
+        for (call, what) in SCREENS {
+            if self.screens_of((call, what)) == 0 {
+                missing.push(format!("{call:?}: {what}"));
+            }
+        }
+        missing.extend(self.missing_lines());
+        missing
+    }
+
+    fn missing_lines(&self) -> Vec<String> {
+        let mut missing = Vec::new();
         for (mode, mode_name) in MODES {
             for (rule, rule_name) in COLOURINGS {
                 for (set, set_name) in TILES {
@@ -144,6 +258,10 @@ impl Seen {
     /// The counts as text.
     pub fn report(&self) -> String {
         let mut text = self.reply_report();
+        for (call, what) in SCREENS {
+            let screens = self.screens_of((call, what));
+            let _ = writeln!(text, "{call:?}, {what}: {screens} files");
+        }
         for (mode, name) in MODES {
             let lines = self.lines_where(|m, _, _| m == mode);
             let _ = writeln!(text, "mode {name}: {lines} lines");
@@ -157,19 +275,19 @@ impl Seen {
 
     fn reply_report(&self) -> String {
         let mut text = String::from("calls by reply:\n              ");
-        for reply in 0..14 {
+        for reply in 0..REPLIES {
             let _ = write!(text, "{reply:>8}");
         }
         text.push('\n');
         for (call, _) in POSSIBLE {
             let _ = write!(text, "{:<14}", format!("{call:?}"));
-            for reply in 0..14 {
+            for reply in 0..REPLIES {
                 let _ = write!(text, "{:>8}", self.replies_of(call, reply));
             }
             text.push('\n');
         }
         text += "all           ";
-        for reply in 0..14 {
+        for reply in 0..REPLIES {
             let all = POSSIBLE.map(|(call, _)| self.replies_of(call, reply));
             let _ = write!(text, "{:>8}", all.iter().sum::<u64>());
         }

@@ -96,10 +96,10 @@ fn every_call_against_the_model() {
     assert!(missing.is_empty(), "never reached: {}", missing.join("; "));
 }
 
-/// 38 replies and 138 kinds of line are asked for.
+/// 47 replies, 22 kinds of screen file and 138 kinds of line are asked for.
 #[test]
 fn what_is_not_reached_is_missed() {
-    assert_eq!(Seen::default().missing().len(), 38 + 138);
+    assert_eq!(Seen::default().missing().len(), 47 + 22 + 138);
 }
 
 /// The preview's sample: its record, its ULA bank and its tile bank, in the folder `sample`.
