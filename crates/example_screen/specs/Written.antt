@@ -1,27 +1,9 @@
 -- The state of the example screen: the reset state after these writes.
 use Prim.Native.Nat.{ℕ, zero, suc, _+_, _*_, _%_}
-use mathlib.Core.List.{List, [], _∷_}
-use lib.ListN.{getD}
 use Rattle.state.specs.declared.State.{State}
 use Rattle.state.specs.Reset.{resetState}
-use Rattle.registers.specs.Registers.{writeRegister, writePort}
-
--- the state after a write of a register
-abbrev pub afterWrite : State → ℕ → ℕ → State
-afterWrite s n v = writeRegister s n v .state
-
--- the sixteen colours of a Spectrum as eight-bit colours: black, blue, red, magenta, green, cyan, yellow, white, and bright
-abbrev pub zxColours : List ℕ
-zxColours =
-    0x00 ∷ 0x02 ∷ 0xA0 ∷ 0xA2 ∷ 0x14 ∷ 0x16 ∷ 0xB4 ∷ 0xB6 ∷ 0x00 ∷ 0x03 ∷ 0xE0 ∷ 0xE3 ∷ 0x1C ∷ 0x1F ∷ 0xFC ∷ 0xFF ∷ []
-
-abbrev pub zxColour : ℕ → ℕ
-zxColour i = getD zxColours (i % 16) 0
-
--- $41: n colours from the index on
-unfoldable pub ulaPainted : State → ℕ → State
-ulaPainted s zero = s
-ulaPainted s (suc n) = afterWrite (ulaPainted s n) 0x41 (zxColour n)
+use Rattle.registers.specs.Registers.{writePort}
+use Rattle.spectrum_colours.specs.Colours.{afterWrite, zxColour, ulaPainted}
 
 -- $40 and $41: two colours at index 1 of each of n palette offsets
 unfoldable pub tilePainted : State → ℕ → State

@@ -1,52 +1,10 @@
 // The state of the example, from reset by register writes.
 ghost use mathlib.Core.Path.{_≡_};
-ghost use Rattle.example_screen.specs.Written.{afterWrite, zxColour, ulaPainted, tilePainted, tilemapSet, exampleState};
+ghost use Rattle.example_screen.specs.Written.{tilePainted, tilemapSet, exampleState};
+use spectrum_colours::paint_ula;
+use spectrum_colours::set;
+use spectrum_colours::zx_colour;
 use state::State;
-
-fn set(s: State, number: u8, value: u8) -> State
-    ensures { λ r. ⌜ r ≡ afterWrite s number value ⌝ }
-{
-    let a = registers::write_register(s, number, value);
-    a.state
-}
-
-// The sixteen colours of a Spectrum, as eight-bit colours.
-const COLOURS: [u8; 16] = [
-    0x00,
-    0x02,
-    0xA0,
-    0xA2,
-    0x14,
-    0x16,
-    0xB4,
-    0xB6,
-    0x00,
-    0x03,
-    0xE0,
-    0xE3,
-    0x1C,
-    0x1F,
-    0xFC,
-    0xFF,
-];
-
-fn zx_colour(i: u8) -> u8
-    ensures { λ r. ⌜ r ≡ zxColour i ⌝ }
-{
-    let k = (i % 16) as usize;
-    COLOURS[k]
-}
-
-// Inks and papers, plain and bright, at indices 0 to 31.
-fn paint_ula(s: State) -> State
-    ensures { λ r. ⌜ r ≡ ulaPainted s 32 ⌝ }
-{
-    let mut t = s;
-    for i in 0..32 {
-        t = set(t, 0x41, zx_colour(i));
-    }
-    t
-}
 
 // The letter's colour and its spot's, white, for each of eight palette offsets.
 fn paint_tiles(s: State) -> State

@@ -1,12 +1,12 @@
 -- The loop of `paint_ula`: so many colours are written.
-use Rattle.example_screen.proofs.Steps.{ula-more}
-use Rattle.example_screen.specs.Written.{ulaPainted}
+use Rattle.spectrum_colours.proofs.Steps.{ula-more}
+use Rattle.spectrum_colours.specs.Colours.{ulaPainted}
 use borrow.Author.Needs.{needs}
 use native.Mathlib.Omega.{arith}
 use mathlib.Core.Path.{_≡_, refl, sym}
 use Prim.Native.Nat.{_-_, _≤_}
-use Rattle.example_screen.proofs.registers_set.paint_ula.Statement.{statement}
-use Rattle.example_screen.proofs.registers_set.paint_ula.Tie as tie
+use Rattle.spectrum_colours.proofs.paint_ula.Statement.{statement}
+use Rattle.spectrum_colours.proofs.paint_ula.Tie as tie
 
 abbrev Inv-loop : tie.InvT-loop
 Inv-loop t₀ i₀ t i = (i ≤ 32) × (t ≡ ulaPainted t₀ i)

@@ -1,7 +1,7 @@
 -- `set` keeps the state of what a write answers.
 use borrow.Author.Needs.{needs}
-use Rattle.example_screen.proofs.registers_set.set.Statement.{statement}
-use Rattle.example_screen.proofs.registers_set.set.Tie as tie
+use Rattle.spectrum_colours.proofs.set.Statement.{statement}
+use Rattle.spectrum_colours.proofs.set.Tie as tie
 
 write-register-requires : tie.Need-write-register-requires
 write-register-requires c κs = search needs
