@@ -8,7 +8,7 @@ fn say(text: &[u8]) {
 }
 
 pub fn usage() {
-    say(b"preview: give no argument, or RECORD ULA-BANK TILE-BANK\n");
+    say(b"preview: give no argument, or SCREEN, or RECORD SCREEN, or RECORD ULA-BANK TILE-BANK\n");
 }
 
 pub fn missing(path: &[u8]) {
@@ -33,6 +33,7 @@ fn meaning(r: Reply) {
     match r {
         Reply::BankLength => say(b"a bank is not 16,384 bytes long"),
         Reply::NotRecord => say(b"the bytes are not a record of a lawful state"),
+        Reply::NoForm => say(b"the file is not a screen, or the screen has no form as a file"),
         _ => state_meaning(r),
     }
 }

@@ -1,18 +1,18 @@
-// preview RECORD ULA-BANK TILE-BANK: the whole picture on standard output as a binary PPM; with no arguments, of the
-// example screen. Nothing is written there before every line is known to draw; what is wrong is said on standard error.
-ghost use lib.ListN.{length};
-ghost use Rattle.host.specs.Read.{within};
+// preview SCREEN: a screen file in the standard colours of a Spectrum; preview RECORD SCREEN: in a member's state; preview RECORD
+// ULA-BANK TILE-BANK: a member's state and banks; with no argument the example screen. The whole picture goes to standard output
+// as a binary PPM. Nothing is written there before every line is known to draw; what is wrong is said on standard error.
 
+mod banks;
 mod complaints;
+mod files;
 mod output;
+mod screens;
 
+use files::load;
 use host::files::Read;
-use host::files::read_file;
 
 // A buffer is one byte longer than its file must be, so that a longer file shows.
 const RECORD: usize = 2151;
-
-const BANK: usize = 16385;
 
 fn draw_example() {
     let ula = example_screen::example_ula();
@@ -20,60 +20,29 @@ fn draw_example() {
     output::show(example_screen::example_state(), &ula, &tiles);
 }
 
-fn draw_record(record: &[u8], ula: &[u8], tile: &[u8]) {
-    let read = record::read_record(record);
-    let r = read.reply;
-    if reply::number(r) == 0 {
-        let s = read.state;
-        output::show(s, ula, tile);
+// A record, and what the names after it are: a screen file, or two banks.
+fn draw_named(record: &[u8], names: usize) {
+    if names == 2 {
+        screens::draw_with(record);
     } else {
-        complaints::refused(r);
+        banks::load_ula(record);
     }
 }
 
-// The bytes of the file that argument i names, as many as fit.
-fn load(i: usize, buffer: &mut [u8]) -> Read
-    ensures { λ r. ⌜ within r (length (now (buffer .exit))) ⌝ }
-{
-    let mut path = io::buffer();
-    let length = os::arg(i, &mut path);
-    let read = read_file(&path[..length], buffer);
-    if let Read::Missing = read {
-        complaints::missing(&path[..length]);
-    }
-    read
-}
-
-fn load_tiles(record: &[u8], ula: &[u8]) {
-    let mut bank = [0u8; BANK];
-    if let Read::Bytes(n) = load(3, &mut bank) {
-        draw_record(record, ula, &bank[..n]);
-    }
-}
-
-fn load_ula(record: &[u8]) {
-    let mut bank = [0u8; BANK];
-    if let Read::Bytes(n) = load(2, &mut bank) {
-        load_tiles(record, &bank[..n]);
-    }
-}
-
-fn load_record() {
+fn load_record(names: usize) {
     let mut record = [0u8; RECORD];
     if let Read::Bytes(n) = load(1, &mut record) {
-        load_ula(&record[..n]);
+        draw_named(&record[..n], names);
     }
 }
 
+// The first argument is the program's own name.
 fn main() {
-    let n = os::arg_count();
-    if n <= 1 {
-        draw_example();
-        return;
-    }
-    if n == 4 {
-        load_record();
-    } else {
-        complaints::usage();
+    match os::arg_count() {
+        0 | 1 => draw_example(),
+        2 => screens::draw_standard(),
+        3 => load_record(2),
+        4 => load_record(3),
+        _ => complaints::usage(),
     }
 }

@@ -18,11 +18,11 @@ enum-known-n c = search needs
 array-share-prefix-record : tie.Need-array-share-prefix-record
 array-share-prefix-record c = let h = rw (c .before .n .given .1) at (c .before .before .before .before .load .ensures) in omega arith
 
-slice-aggregate-load-ula : tie.Need-slice-aggregate-load-ula
-slice-aggregate-load-ula c = let h = rw (c .before .before .n .given .1) at (c .before .before .before .before .before .load .ensures) in sym (length-take-le _ _ h)
+slice-aggregate-draw-named : tie.Need-slice-aggregate-draw-named
+slice-aggregate-draw-named c = let h = rw (c .before .before .n .given .1) at (c .before .before .before .before .before .load .ensures) in sym (length-take-le _ _ h)
 
-load-ula-requires : tie.Need-load-ula-requires
-load-ula-requires c κs = search needs
+draw-named-requires : tie.Need-draw-named-requires
+draw-named-requires c κs = search needs
 
 enum-told : tie.Need-enum-told
 enum-told c = search needs
@@ -41,8 +41,8 @@ load-record-spec =
     load-requires
     enum-known-n
     array-share-prefix-record
-    slice-aggregate-load-ula
-    load-ula-requires
+    slice-aggregate-draw-named
+    draw-named-requires
     enum-told
     returns
     returns-2)

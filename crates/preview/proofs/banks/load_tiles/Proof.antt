@@ -1,10 +1,10 @@
--- `load_ula` lends as many bytes of the buffer as `load` says that it filled.
+-- `load_tiles` lends as many bytes of the buffer as `load` says that it filled.
 use native.Mathlib.Omega.{arith}
 use lib.Seq.{length-take-le}
 use mathlib.Core.Path.{sym}
 use borrow.Author.Needs.{needs}
-use Rattle.preview.proofs.load_ula.Statement.{statement}
-use Rattle.preview.proofs.load_ula.Tie as tie
+use Rattle.preview.proofs.banks.load_tiles.Statement.{statement}
+use Rattle.preview.proofs.banks.load_tiles.Tie as tie
 
 slice-aggregate-load : tie.Need-slice-aggregate-load
 slice-aggregate-load c = search needs
@@ -18,11 +18,11 @@ enum-known-n c = search needs
 array-share-prefix-bank : tie.Need-array-share-prefix-bank
 array-share-prefix-bank c = let h = rw (c .before .n .given .1) at (c .before .before .before .before .load .ensures) in omega arith
 
-slice-aggregate-load-tiles : tie.Need-slice-aggregate-load-tiles
-slice-aggregate-load-tiles c = let h = rw (c .before .before .n .given .1) at (c .before .before .before .before .before .load .ensures) in sym (length-take-le _ _ h)
+slice-aggregate-draw-record : tie.Need-slice-aggregate-draw-record
+slice-aggregate-draw-record c = let h = rw (c .before .before .n .given .1) at (c .before .before .before .before .before .load .ensures) in sym (length-take-le _ _ h)
 
-load-tiles-requires : tie.Need-load-tiles-requires
-load-tiles-requires c κs = search needs
+draw-record-requires : tie.Need-draw-record-requires
+draw-record-requires c κs = search needs
 
 enum-told : tie.Need-enum-told
 enum-told c = search needs
@@ -33,16 +33,16 @@ returns c = search needs
 returns-2 : tie.Need-returns-2
 returns-2 c = search needs
 
-pub load-ula-spec : {M : Type 1} → statement M
-load-ula-spec =
+pub load-tiles-spec : {M : Type 1} → statement M
+load-tiles-spec =
     tie.close
     (tie.spec
     slice-aggregate-load
     load-requires
     enum-known-n
     array-share-prefix-bank
-    slice-aggregate-load-tiles
-    load-tiles-requires
+    slice-aggregate-draw-record
+    draw-record-requires
     enum-told
     returns
     returns-2)
