@@ -1,2 +1,1 @@
 pub mod Addresses
-pub mod Claims

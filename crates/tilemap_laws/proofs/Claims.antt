@@ -3,8 +3,8 @@ use Prim.Native.Nat.{ℕ, _+_, _*_, _≤_, _<_}
 use mathlib.Core.Path.{_≡_}
 use mathlib.Core.Bool.{Bool, true, false, cond}
 use native.Mathlib.Omega.{arith}
 use Rattle.tilemap_entries.specs.Entries.{entryAddress}
-use Rattle.tilemap_entries.specs.Claims.{CellNumbers, entrySize, EntryAddresses, EntriesApart}
+use Rattle.tilemap_laws.specs.Claims.{CellNumbers, entrySize, EntryAddresses, EntriesApart}
 
 pub cellNumbers : CellNumbers
 cellNumbers true tx ty h k = record { most = omega arith; column = omega arith; row = omega arith }

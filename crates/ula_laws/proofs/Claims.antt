@@ -7,7 +7,7 @@ use native.Mathlib.Omega.{arith}
 use borrow.Author.Tests.{leb-true, leb-false}
 use Rattle.ula_mode.specs.declared.modes.Mode.the-variants.{Lores, Standard, Second, HighColour, HighResolution, Missing}
 use Rattle.ula_byte.specs.Bytes.{byteAddress, hiresAddress, loresAddress}
-use Rattle.ula_address.specs.Claims.{AddressesInBank, AddressesOneToOne, AttributesApart}
+use Rattle.ula_laws.specs.Claims.{AddressesInBank, AddressesOneToOne, AttributesApart}
 
 -- the step from row 48 on
 lores-step : (y c : ℕ) → y < 96 → loresAddress y c ≡ y * 128 + c + y / 48 * 0x800

@@ -1,0 +1,1 @@
+// What holds of the ULA's addresses in every mode: statements in specs/Claims.antt, proved in proofs/Claims.antt. There is no code here.
