@@ -8,7 +8,7 @@ ghost use Rattle.line_replies.specs.Replies.{drawReply, drawnIf};
 ghost use Rattle.line.specs.Lines.{drawnLine};
 use crate::lines::composed_line;
 use line_dots::finish_line;
-use line_replies::draw_reply;
+use line_order::draw_reply;
 use reply::Reply;
 use state::State;
 use surface::LineNumber;

@@ -1,14 +1,11 @@
 // What a drawing is refused for, piece by piece.
 ghost use mathlib.Core.Path.{_≡_};
-ghost use Rattle.line_replies.specs.Replies.{lineReply, lengthsReply, loresWithTiles, nextWithPlus, noMode, farOffset, stateReply, drawReply};
+ghost use Rattle.line_replies.specs.Replies.{lineReply, lengthsReply, loresWithTiles, nextWithPlus, noMode, farOffset, stateReply};
 use reply::Reply;
-use reply::first_of;
 use state::Palette;
 use state::Ports;
-use state::State;
 use state::Tiles;
 use state::Ula;
-use state::lawful_reply;
 use surface::LineNumber;
 
 // Done where the line can be drawn.
@@ -81,18 +78,4 @@ pub fn state_reply(u: Ula, t: Tiles, p: Palette, ports: Ports) -> Reply
         return Reply::FarOffset;
     }
     Reply::Done
-}
-
-// The replies in their order; the first that refuses is the answer.
-pub fn draw_reply(line: LineNumber, ula: usize, tile: usize, out: usize, s: State) -> Reply
-    ensures { λ r. ⌜ r ≡ drawReply line ula tile out s ⌝ }
-{
-    let last = first_of(
-        lawful_reply(s),
-        state_reply(s.ula, s.tiles, s.palette, s.ports),
-    );
-    first_of(
-        line_reply(line),
-        first_of(lengths_reply(ula, tile, out), last),
-    )
 }

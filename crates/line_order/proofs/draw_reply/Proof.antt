@@ -1,9 +1,9 @@
 -- The pieces in their order, taken together from the last.
 use Rattle.line_replies.specs.Replies.{drawReply}
 use Rattle.reply.proofs.Order.{last-hit, next-hit}
 use borrow.Author.Needs.{needs}
-use Rattle.line_replies.proofs.replies.draw_reply.Statement.{statement}
-use Rattle.line_replies.proofs.replies.draw_reply.Tie as tie
+use Rattle.line_order.proofs.draw_reply.Statement.{statement}
+use Rattle.line_order.proofs.draw_reply.Tie as tie
 
 lawful-reply-requires : tie.Need-lawful-reply-requires
 lawful-reply-requires c κs = search needs
