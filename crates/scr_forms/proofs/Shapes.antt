@@ -94,9 +94,6 @@ told Missing c file h e p = absurd (not-both h refl)
 pub colours-there : (file : List ℕ) → shapeOf file .colours ≡ true → coloursAt file ≡ length file - 64
 colours-there file h = ap (λ (b : Bool). length file - coloursSize b) h
 
-pub colours-none : (file : List ℕ) → shapeOf file .colours ≡ false → coloursAt file ≡ length file
-colours-none file h = let e : coloursSize (shapeOf file .colours) ≡ 0 = ap coloursSize h in omega arith
-
 pub colours-length : (file : List ℕ) → length (coloursIn file) ≡ coloursSize (shapeOf file .colours)
 unfolding coloursIn
 colours-length file = go (shapeOf file .colours) refl
