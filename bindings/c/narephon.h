@@ -8,12 +8,22 @@
  * stay as they were. Later versions may answer with numbers that are not in this
  * header: a caller takes any number but 0 for a refusal.
  *
+ * Records are made in version 2. One of version 1, which libraries before 0.3.0
+ * made, is an old record of NAREPHON_OLD_RECORD bytes: it lacks registers $26
+ * and $27, which scroll the ULA, and its $32 and $33 stand for them. A call that
+ * only reads its record, which is const there, takes both versions; the two
+ * moves say which they take. A call that changes its record takes version 2
+ * alone: an old record is 13 there, and narephon_move_up makes it new. The
+ * `record_len` of a stored record is the length it was stored with: an old one
+ * lent as the whole of a buffer of NAREPHON_RECORD bytes is 13 to every call.
+ *
  * A buffer is a pointer and its number of elements. A pointer is not null,
  * also where the number is 0. What is lent for reading may overlap: `ula` and
  * `tile` may be the same pointer. What is lent for writing (the record of a
- * call that changes it, the bank that a screen file is read into, the file that
- * one is written into, `dots`, `map`, `definitions`, and `value`, `count`,
- * `colours` and `length` too) overlaps nothing else that the call is given.
+ * call that changes it, the `target` of a move, the bank that a screen file is
+ * read into, the file that one is written into, `dots`, `map`, `definitions`,
+ * and `value`, `count`, `colours` and `length` too) overlaps nothing else that
+ * the call is given.
  *
  * The library keeps nothing between calls and has no data of its own that it
  * writes. Calls may run side by side in several threads as long as none writes
@@ -30,13 +40,14 @@ extern "C" {
 #endif
 
 /* The version of this header and of the library that it is delivered with. */
-#define NAREPHON_VERSION "0.2.0"
+#define NAREPHON_VERSION "0.3.0"
 #define NAREPHON_VERSION_MAJOR 0
-#define NAREPHON_VERSION_MINOR 2
+#define NAREPHON_VERSION_MINOR 3
 #define NAREPHON_VERSION_PATCH 0
 
 /* Lengths, in elements. */
-#define NAREPHON_RECORD 2150
+#define NAREPHON_RECORD 2152
+#define NAREPHON_OLD_RECORD 2150
 #define NAREPHON_BANK 16384
 #define NAREPHON_DOTS 640
 #define NAREPHON_PICTURE 40960
@@ -60,7 +71,8 @@ enum narephon_reply {
     NAREPHON_TOO_MANY_TILES = 11,  /* no map naming at most the number allowed draws the picture */
     NAREPHON_PACKING_BOUNDS = 12,  /* the number allowed is above 256, or the palette offset above 15 */
     NAREPHON_NOT_RECORD = 13,      /* the bytes are not a record of a lawful state */
-    NAREPHON_NO_FORM = 14          /* the file is not a screen, or the screen has no form as a file */
+    NAREPHON_NO_FORM = 14,         /* the file is not a screen, or the screen has no form as a file */
+    NAREPHON_PAIRS_DIFFER = 15     /* the record cannot be moved back: $26 is not $32, or $27 is not $33 */
 };
 
 /* Below, "replies" are the refusals of a call in the order in which they are
@@ -72,10 +84,24 @@ enum narephon_reply {
  * A refusal leaves `record` as it was. */
 uint8_t narephon_reset(uint8_t *record, size_t record_len);
 
-/* Says whether `record` is a record of a lawful state: 0, or 13 for every
- * fault, a wrong length included. Replies: 13.
+/* Says whether `record` is a record of a lawful state, of either version: 0, or
+ * 13 for every fault, a wrong length included. Replies: 13.
  * It changes nothing. The other calls judge their record by themselves. */
 uint8_t narephon_check_record(const uint8_t *record, size_t record_len);
+
+/* Moves an old record up: writes the record of version 2 of its state into
+ * `target`, $26 and $27 being its $32 and $33, so that every line is drawn as
+ * before. `target_len` is NAREPHON_RECORD; a record of version 2 is 13.
+ * Replies: 3, 13.
+ * It leaves `record` as it was, and a refusal `target` too. */
+uint8_t narephon_move_up(const uint8_t *record, size_t record_len, uint8_t *target, size_t target_len);
+
+/* Moves a record of version 2 back: writes the old record of its state, which
+ * libraries before 0.3.0 take, into `target`. It has one while $26 is $32 and
+ * $27 is $33. `target_len` is NAREPHON_OLD_RECORD; an old record is 13.
+ * Replies: 3, 13, 15.
+ * It leaves `record` as it was, and a refusal `target` too. */
+uint8_t narephon_move_back(const uint8_t *record, size_t record_len, uint8_t *target, size_t target_len);
 
 /* Moves the state in `record` one frame on, from 255 to 0. Replies: 13.
  * A refusal leaves `record` as it was. */

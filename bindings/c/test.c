@@ -5,6 +5,7 @@
 #include <string.h>
 
 static uint8_t record[NAREPHON_RECORD], before[NAREPHON_RECORD], bank[NAREPHON_BANK];
+static uint8_t old[NAREPHON_OLD_RECORD], kept[NAREPHON_OLD_RECORD], moved[NAREPHON_RECORD];
 static uint8_t file[NAREPHON_SCREEN], written[NAREPHON_SCREEN], screen[NAREPHON_BANK];
 static uint8_t picture[NAREPHON_PICTURE], map[NAREPHON_MAP], definitions[NAREPHON_DEFINITIONS];
 static uint16_t dots[NAREPHON_DOTS];
@@ -40,8 +41,112 @@ static void records(void) {
     same("check", narephon_check_record(record, sizeof record), NAREPHON_DONE);
     same("check, short", narephon_check_record(record, sizeof record - 1), NAREPHON_NOT_RECORD);
     same("record kept", (uint32_t)memcmp(before, record, sizeof record), 0);
-    before[2] = 2;
-    same("check, version 2", narephon_check_record(before, sizeof before), NAREPHON_NOT_RECORD);
+    before[2] = 3;
+    same("check, version 3", narephon_check_record(before, sizeof before), NAREPHON_NOT_RECORD);
+}
+
+static void write_register(uint8_t number, uint8_t value) {
+    same("write", narephon_write_register(record, sizeof record, number, value), NAREPHON_DONE);
+}
+
+static uint8_t move_up(size_t target_len) {
+    return narephon_move_up(old, sizeof old, moved, target_len);
+}
+
+static uint8_t move_back(size_t target_len) {
+    return narephon_move_back(record, sizeof record, old, target_len);
+}
+
+static void write_scrolls(uint8_t lores_x, uint8_t lores_y, uint8_t ula_x, uint8_t ula_y) {
+    write_register(0x32, lores_x);
+    write_register(0x33, lores_y);
+    write_register(0x26, ula_x);
+    write_register(0x27, ula_y);
+}
+
+/* A record with one scroll goes back and comes up again: of its 2,152 bytes those of $26 and $27, at 21 and 22, are left out. */
+static void moves(void) {
+    write_scrolls(1, 2, 3, 4);
+    for (uint8_t i = 0; i < 4; i++) same("place of a scroll", record[19 + i], i + 1u);
+    write_scrolls(13, 65, 13, 65);
+    same("back", move_back(sizeof old), NAREPHON_DONE);
+    same("how many follow", old[0] * 256u + old[1], 2148);
+    same("version", old[2], 1);
+    same("up to $33", (uint32_t)memcmp(old + 3, record + 3, 18), 0);
+    same("from the clips on", (uint32_t)memcmp(old + 21, record + 23, 2129), 0);
+    same("up", move_up(sizeof moved), NAREPHON_DONE);
+    same("up again", (uint32_t)memcmp(moved, record, sizeof record), 0);
+}
+
+/* The refusals of moves in their order; the target, every byte of it 7, stays. */
+static void refused_moves(void) {
+    memset(moved, 7, sizeof moved);
+    same("up, short", move_up(sizeof moved - 1), NAREPHON_BUFFER_LENGTH);
+    same("up, short and none", narephon_move_up(record, 3, moved, 3), NAREPHON_BUFFER_LENGTH);
+    same("up, of version 2", narephon_move_up(record, sizeof record, moved, sizeof moved), NAREPHON_NOT_RECORD);
+    for (size_t i = 0; i < sizeof moved; i++) same("target of up kept", moved[i], 7);
+    memcpy(kept, old, sizeof old);
+    memset(old, 7, sizeof old);
+    same("back, short", move_back(sizeof old - 1), NAREPHON_BUFFER_LENGTH);
+    same("back, of an old one", narephon_move_back(kept, sizeof kept, old, sizeof old), NAREPHON_NOT_RECORD);
+    write_register(0x26, 14);
+    same("back, X differs", move_back(sizeof old), NAREPHON_PAIRS_DIFFER);
+    write_register(0x26, 13);
+    write_register(0x27, 66);
+    same("back, Y differs", move_back(sizeof old), NAREPHON_PAIRS_DIFFER);
+    same("$27 above 191", narephon_write_register(record, sizeof record, 0x27, 192), NAREPHON_OUT_OF_BOUNDS);
+    same("back, short and Y differs", move_back(3), NAREPHON_BUFFER_LENGTH);
+    for (size_t i = 0; i < sizeof old; i++) same("target of back kept", old[i], 7);
+    write_register(0x27, 65);
+}
+
+static uint8_t draw_by(const uint8_t *by, size_t length) {
+    return narephon_draw(by, length, bank, sizeof bank, bank, sizeof bank, 32, dots, NAREPHON_DOTS);
+}
+
+/* Scrolled by 13 and 65, column 1 of row 65 is the display's first: its ink, 2, is red there, by the old record and the new. */
+static void scrolled(void) {
+    write_register(0x40, 2);
+    write_register(0x41, 0xE0);
+    bank[0x0901] = 0x80;
+    bank[0x1901] = 0x0A;
+    same("draw, new", draw_by(record, sizeof record), NAREPHON_DONE);
+    same("its first dot", dots[64], 448);
+    same("its third", dots[66], 0);
+    same("back", move_back(sizeof old), NAREPHON_DONE);
+    memset(dots, 0, sizeof dots);
+    same("draw, old", draw_by(old, sizeof old), NAREPHON_DONE);
+    same("its first dot", dots[64], 448);
+    write_register(0x32, 0);
+    write_register(0x33, 0);
+    memset(dots, 0, sizeof dots);
+    same("draw, $32 and $33 0", draw_by(record, sizeof record), NAREPHON_DONE);
+    same("its first dot", dots[64], 448);
+}
+
+/* An old record is read as it is, and never changed. */
+static void old_records(void) {
+    uint8_t value = 99;
+    memcpy(kept, old, sizeof old);
+    memset(file, 1, sizeof file);
+    colours = length = 99;
+    same("check", narephon_check_record(old, sizeof old), NAREPHON_DONE);
+    same("read of $26", narephon_read_register(old, sizeof old, 0x26, &value), NAREPHON_DONE);
+    same("its value", value, 13);
+    same("read of $27", narephon_read_register(old, sizeof old, 0x27, &value), NAREPHON_DONE);
+    same("its value", value, 65);
+    same("read of $FF3B", narephon_read_port(old, sizeof old, 0xFF3B, &value), NAREPHON_DONE);
+    same("screen", narephon_write_scr(old, sizeof old, bank, sizeof bank, written, sizeof written, &length),
+         NAREPHON_DONE);
+    same("its length", length, 6912);
+    same("frame", narephon_next_frame(old, sizeof old), NAREPHON_NOT_RECORD);
+    same("register", narephon_write_register(old, sizeof old, 0x14, 7), NAREPHON_NOT_RECORD);
+    same("port", narephon_write_port(old, sizeof old, 0xFE, 2), NAREPHON_NOT_RECORD);
+    same("file", narephon_read_scr(old, sizeof old, screen, sizeof screen, file, 6912, &colours), NAREPHON_NOT_RECORD);
+    same("its colours", colours, 0);
+    for (size_t i = 0; i < sizeof screen; i++) same("bank kept", screen[i], 0);
+    same("reset", narephon_reset(old, sizeof old), NAREPHON_BUFFER_LENGTH);
+    same("old record kept", (uint32_t)memcmp(kept, old, sizeof old), 0);
 }
 
 static void pictures(void) {
@@ -137,6 +242,10 @@ int main(void) {
     version();
     registers();
     records();
+    moves();
+    refused_moves();
+    scrolled();
+    old_records();
     pictures();
     screens();
     refused_screens();

@@ -1,5 +1,6 @@
 """A bot's states, kept by member number. Two members share a nickname; one has sent half a nine-bit colour, the other
-sends a byte of her own, and neither reaches the other. The bot then writes a preview of a member's screen.
+sends a byte of her own, and neither reaches the other. A third has an old record, which is moved up when it is loaded.
+The bot then writes a preview of a member's screen.
 
     python3 bot.py [PNG-FILE]
 
@@ -20,6 +21,10 @@ class Bot:
 
     def __init__(self) -> None:
         self.records: dict[int, bytes] = {}
+
+    def load(self, member: int, stored: bytes) -> None:
+        """Takes over a stored record of either version."""
+        self.records[member] = narephon.load_record(stored)
 
     def write(self, member: int, register: int, value: int) -> None:
         record = self.records.setdefault(member, narephon.reset())
@@ -47,6 +52,14 @@ def keep_apart(bot: Bot) -> None:
         print(f"member {member}: colour", bot.read(member, 0x41) * 2 + bot.read(member, 0x44))
 
 
+def old_record() -> bytes:
+    """A record as versions before 0.3.0 stored it, of a screen scrolled by 16 and 40."""
+    record = narephon.reset()
+    for register, value in ((0x26, 16), (0x27, 40), (0x32, 16), (0x33, 40)):
+        record = narephon.write_register(record, register, value)
+    return narephon.move_back(record)
+
+
 def inks_and_papers() -> bytes:
     """A ULA bank that shows each ink, from top to bottom, on each paper, from left to right."""
     bitmap = bytes([0xF0]) * 6144
@@ -57,6 +70,9 @@ def inks_and_papers() -> bytes:
 def main() -> None:
     bot = Bot()
     keep_apart(bot)
+    bot.load(9, old_record())
+    bot.write(9, 0x26, 24)  # a register that her old record did not have
+    print("member 9 scrolls by", bot.read(9, 0x26), "and", bot.read(9, 0x27))
     for first in (0, 16):  # the inks, and the papers with the border
         bot.write(8, 0x40, first)
         for colour in COLOURS:

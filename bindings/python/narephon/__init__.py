@@ -8,6 +8,11 @@ function names. An argument of another type raises ``TypeError``, and a number t
 ``ValueError``, before the library is called. Nothing is kept between calls, so that calls may run side by side in
 threads.
 
+Records are made in version 2. One of version 1, which versions before 0.3.0 made, is an old record of ``OLD_RECORD``
+bytes: it lacks registers $26 and $27, which scroll the ULA, and its $32 and $33 stand for them. A function that only
+reads a record, but for the two moves, takes both versions. One that gives a changed record back takes version 2 alone,
+and an old record is reply 13 there: ``load_record`` makes it new.
+
 The library is the file that the environment variable NAREPHON_LIBRARY names; else the one inside the package, as
 installed; else that of the checkout in which the package stands, as ``bindings/build`` makes it.
 """
@@ -21,14 +26,16 @@ from . import _library, _png
 from .replies import Refused, Reply
 
 __all__ = [
-    "BANK", "DEFINITIONS", "DOTS", "MAP", "PICTURE", "RECORD", "SCREEN", "BytesLike", "Packing", "Refused", "Reply",
-    "Screen", "check_record", "draw", "fewest", "is_record", "next_frame", "pack", "preview_png", "read_port",
-    "read_register", "read_scr", "reset", "screen_value", "write_port", "write_register", "write_scr",
+    "BANK", "DEFINITIONS", "DOTS", "MAP", "OLD_RECORD", "PICTURE", "RECORD", "SCREEN", "BytesLike", "Packing",
+    "Refused", "Reply", "Screen", "check_record", "draw", "fewest", "is_record", "load_record", "move_back", "move_up",
+    "next_frame", "pack", "preview_png", "read_port", "read_register", "read_scr", "reset", "screen_value",
+    "write_port", "write_register", "write_scr",
 ]
 
-__version__ = "0.2.0"
+__version__ = "0.3.0"
 
-RECORD = 2150
+RECORD = 2152
+OLD_RECORD = 2150
 BANK = 16384
 DOTS = 640
 PICTURE = 40960
@@ -105,7 +112,7 @@ def reset() -> bytes:
 
 
 def check_record(record: BytesLike) -> None:
-    """Judges whether the bytes are a record of a lawful state, and changes nothing.
+    """Judges whether the bytes are a record of a lawful state, of either version, and changes nothing.
 
     Raises ``Refused`` with reply 13 where they are not, a wrong length included. The other functions judge their record
     by themselves.
@@ -116,6 +123,37 @@ def check_record(record: BytesLike) -> None:
 def is_record(record: BytesLike) -> bool:
     """Whether the bytes are a record of a lawful state, as ``check_record`` judges; never refused, changes nothing."""
     return _narephon.narephon_check_record(*_lent("record", record)) == Reply.DONE
+
+
+def move_up(record: BytesLike) -> bytes:
+    """An old record moved up: the record of version 2 of its state, $26 and $27 being its $32 and $33, so that every
+    line is drawn as before.
+
+    Raises ``Refused`` with reply 13, for a record of version 2 too; the record given stays as it was.
+    """
+    target, length = _lent("target", bytes(RECORD))
+    _answered(_narephon.narephon_move_up(*_lent("record", record), target, length))
+    return bytes(target)
+
+
+def move_back(record: BytesLike) -> bytes:
+    """A record of version 2 moved back: the old record of its state, which versions before 0.3.0 take. It has one while
+    $26 is $32 and $27 is $33.
+
+    Raises ``Refused`` with reply 13, for an old record too, or 15; the record given stays as it was.
+    """
+    target, length = _lent("target", bytes(OLD_RECORD))
+    _answered(_narephon.narephon_move_back(*_lent("record", record), target, length))
+    return bytes(target)
+
+
+def load_record(record: BytesLike) -> bytes:
+    """A stored record, of either version, as one that every function takes: an old one moved up, one of version 2 as it
+    is. Raises ``Refused`` with reply 13; the record given stays as it was.
+    """
+    check_record(record)
+    stored = bytes(record)
+    return stored if len(stored) == RECORD else move_up(stored)
 
 
 def next_frame(record: BytesLike) -> bytes:

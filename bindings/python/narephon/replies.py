@@ -36,6 +36,7 @@ class Reply(IntEnum):
     PACKING_BOUNDS = 12, "the number allowed is above 256, or the palette offset above 15"
     NOT_RECORD = 13, "the bytes are not a record of a lawful state"
     NO_FORM = 14, "the file is not a screen, or the screen has no form as a file"
+    PAIRS_DIFFER = 15, "the record cannot be moved back: $26 is not $32, or $27 is not $33"
 
     @classmethod
     def _missing_(cls, value: object) -> Reply | None:

@@ -30,7 +30,7 @@ class Case(unittest.TestCase):
 
 
 def sample() -> tuple[bytes, bytes, bytes]:
-    """The example screen: its record, ULA bank and tile bank."""
+    """The example screen: its record, which is an old one, its ULA bank and its tile bank."""
     folder = REPOSITORY / "bindings" / "rust" / "compare" / "sample"
     return (folder / "record").read_bytes(), (folder / "ula").read_bytes(), (folder / "tile").read_bytes()
 

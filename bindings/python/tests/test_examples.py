@@ -6,7 +6,7 @@ import re
 import unittest
 
 import narephon
-from support import LIBRARY, PYTHON, InFolder, environment_of, outside, pixels, python, sample
+from support import LIBRARY, PYTHON, InFolder, environment_of, outside, pixels, python, sample, written
 
 BOT = str(PYTHON / "examples" / "bot.py")
 
@@ -25,7 +25,8 @@ class Examples(InFolder):
     def test_the_bot_keeps_members_apart(self) -> None:
         self.assertEqual(self.bot(), [
             "member 8 finished her colour: index 13", "member 7 still holds his half: index 12",
-            "member 7: colour 454", "member 8: colour 57", "member 8: preview in preview.png",
+            "member 7: colour 454", "member 8: colour 57", "member 9 scrolls by 24 and 40",
+            "member 8: preview in preview.png",
         ])
 
     def test_the_bot_writes_a_preview(self) -> None:
@@ -46,6 +47,8 @@ class Examples(InFolder):
             run = python(self.folder, "-c", code, **self.environment)
             self.assertEqual((run.returncode, run.stderr), (0, ""))
         self.assertEqual((self.folder / "preview.png").read_bytes(), narephon.preview_png(*sample()))
+        moved = (self.folder / "record").read_bytes()
+        self.assertEqual((len(sample()[0]), moved), (2150, written(narephon.move_up(sample()[0]), (0x26, 8))))
         # Port byte $26: the ink is 4, bright green, and paper and border are 3, bright magenta.
         shown = {pixel for row in pixels((self.folder / "screen.png").read_bytes()) for pixel in row}
         self.assertEqual(shown, {0x00FF00, 0xFF00FF})

@@ -30,7 +30,7 @@ class Installing(Copied):
         """The package in the folder is imported by a Python with an empty environment."""
         run = python(site, "-c", INSTALLED)
         self.assertEqual(run.stderr, "")
-        self.assertEqual(run.stdout, f"{site / 'narephon' / '__init__.py'} {narephon.__version__} 2150\n")
+        self.assertEqual(run.stdout, f"{site / 'narephon' / '__init__.py'} {narephon.__version__} 2152\n")
 
 
 class Wheel(Installing):

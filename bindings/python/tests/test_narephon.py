@@ -15,7 +15,7 @@ BANK = bytes(16384)
 class Records(Case):
     def test_reset_and_frames(self) -> None:
         record = narephon.reset()
-        self.assertEqual(record[:3], bytes([8, 100, 1]))
+        self.assertEqual((len(record), record[:3]), (2152, bytes([8, 102, 2])))
         after = record
         for _ in range(256):
             after = narephon.next_frame(after)
@@ -111,7 +111,7 @@ class Arguments(Case):
 
     def test_what_is_no_bytes(self) -> None:
         record = narephon.reset()
-        for given, kind in (("record", "str"), ([0] * 2150, "list"), (None, "NoneType"), (2150, "int")):
+        for given, kind in (("record", "str"), ([0] * 2152, "list"), (None, "NoneType"), (2152, "int")):
             with self.assertRaises(TypeError) as caught:
                 narephon.next_frame(given)  # type: ignore[arg-type]
             said = f"record must be bytes, a bytearray or a memoryview, not {kind}"
@@ -148,9 +148,9 @@ class Header(Case):
         self.assertEqual(stated, [narephon.__version__])
 
     def test_the_lengths(self) -> None:
-        stated = re.findall(r"^#define NAREPHON_(RECORD|BANK|DOTS|PICTURE|MAP|DEFINITIONS|SCREEN) (\d+)$", self.header,
-                            re.MULTILINE)
-        self.assertEqual(len(stated), 7)
+        stated = re.findall(r"^#define NAREPHON_((?:OLD_)?RECORD|BANK|DOTS|PICTURE|MAP|DEFINITIONS|SCREEN) (\d+)$",
+                            self.header, re.MULTILINE)
+        self.assertEqual(len(stated), 8)
         for name, length in stated:
             self.assertEqual(getattr(narephon, name), int(length), name)
 

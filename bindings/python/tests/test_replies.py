@@ -23,13 +23,13 @@ class Replies(Case):
         library = mock.Mock()
         library.narephon_next_frame.return_value = 255
         with mock.patch.object(narephon, "_narephon", library), self.assertRaises(Refused) as caught:
-            narephon.next_frame(bytes(2150))
+            narephon.next_frame(bytes(2152))
         self.assertEqual(str(caught.exception), f"refused 255: {UNKNOWN}")
         reply = caught.exception.reply
         self.assertIsInstance(reply, Reply)
         self.assertEqual((reply, reply.name, reply.sentence), (255, "UNKNOWN_255", UNKNOWN))
         self.assertEqual(reply, Reply(255))
-        self.assertEqual(len(Reply), 15)
+        self.assertEqual(len(Reply), 16)
 
     def test_what_is_no_reply(self) -> None:
         for number in (-1, 256, "10", None):

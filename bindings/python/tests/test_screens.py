@@ -39,10 +39,10 @@ class Reading(Case):
             self.assertEqual(narephon.read_port(screen.record, 0xFF), port)
             self.assertEqual(narephon.read_register(screen.record, 0x15), 0)
             self.assertEqual(narephon.read_register(screen.record, 0x43), 0x30)
-            self.assertEqual(screen.record[31:33], bytes([1, 77]))  # the half is still held
-            self.assertEqual((screen.record[36], len(screen.colours)), (0, 0) if place is None else (1, 64))
+            self.assertEqual(screen.record[33:35], bytes([1, 77]))  # the half is still held
+            self.assertEqual((screen.record[38], len(screen.colours)), (0, 0) if place is None else (1, 64))
             if place is not None:
-                self.assertEqual(screen.record[38:102], file[place:])
+                self.assertEqual(screen.record[40:104], file[place:])
             self.assertEqual(narephon.write_scr(screen.record, screen.bank), file)
 
     def test_the_colours_are_the_files_own(self) -> None:

@@ -1,4 +1,4 @@
-// The calls that change a lent record.
+// The calls that change a lent record, of version 2. To all but reset, which reads nothing, one of version 1 is no record.
 ghost use mathlib.Core.Path.{_≡_};
 ghost use Rattle.reply.specs.Reply.{replyNumber};
 ghost use Rattle.frame.specs.Frame.{nextFrame};
@@ -7,7 +7,7 @@ ghost use Rattle.lent.specs.Lent.{lentAnswer, lentAfter, resetReply, resetIn};
 use lent::Change;
 use reply::number;
 
-// Puts the record of the reset state into `bytes`, whatever they hold; they only have to be as many as a record has.
+// Puts the record of the reset state into `bytes`, whatever they hold; there only have to be 2,152 of them.
 // Any other length is 3 and leaves them.
 #[no_mangle]
 pub extern "C" fn narephon_reset(bytes: &mut [u8]) -> u8

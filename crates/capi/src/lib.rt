@@ -1,5 +1,6 @@
 // The calls for C, Rust and Python: numbers and slices only, a state lent as its record. Each answers the reply's number.
 mod changes;
+mod moves;
 mod pictures;
 mod readings;
 mod screens;
@@ -8,6 +9,8 @@ pub use changes::narephon_next_frame;
 pub use changes::narephon_reset;
 pub use changes::narephon_write_port;
 pub use changes::narephon_write_register;
+pub use moves::narephon_move_back;
+pub use moves::narephon_move_up;
 pub use pictures::narephon_draw;
 pub use pictures::narephon_fewest;
 pub use pictures::narephon_pack;

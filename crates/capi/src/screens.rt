@@ -1,4 +1,4 @@
-// The calls on screen files.
+// The calls on screen files. Reading one changes the record, which is of version 2; writing one takes either version.
 ghost use mathlib.Core.Path.{_≡_};
 ghost use Rattle.reply.specs.Reply.{replyNumber};
 ghost use Rattle.record_layout.specs.Record.{readRecord};

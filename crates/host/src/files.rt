@@ -2,6 +2,7 @@
 ghost use lib.ListN.{length};
 ghost use Rattle.io.specs.Counts.{Counts};
 ghost use Rattle.host.specs.Read.{within};
+use crate::complaints;
 
 // How many bytes of a file are in the buffer, or that it cannot be opened.
 pub enum Read {
@@ -21,6 +22,19 @@ pub fn read_file(path: &[u8], buffer: &mut [u8]) -> Read
     let n = io::read_full(fd, buffer);
     libc::close(fd);
     Read::Bytes(n)
+}
+
+// Reads the file that argument i of a program names; that it cannot be opened is said on standard error.
+pub fn read_argument(program: &[u8], i: usize, buffer: &mut [u8]) -> Read
+    ensures { λ r. ⌜ within r (length (now (buffer .exit))) ⌝ }
+{
+    let mut path = io::buffer();
+    let length = os::arg(i, &mut path);
+    let read = read_file(&path[..length], buffer);
+    if let Read::Missing = read {
+        complaints::missing(program, &path[..length]);
+    }
+    read
 }
 
 // How many bytes of a file are in the buffer, 0 where it cannot be opened.

@@ -12,8 +12,10 @@ use Rattle.state.specs.declared.Answer.{Answer}
 use Rattle.state.specs.Lawful.{lawfulState}
 use Rattle.register_answers.specs.declared.Reading.{Reading}
 use Rattle.register_answers.specs.Answers.{unread}
-use Rattle.record_layout.specs.Record.{recordLength, recordOf, readRecord}
-use Rattle.record_layout.proofs.RoundTrip.{long, answer, state-lawful}
+use Rattle.record_layout.specs.Version.{current}
+use Rattle.record_layout.specs.Record.{accepted, recordLength, recordOf, readRecord, readCurrent}
+use Rattle.record_layout.proofs.Stages.{accepts, done-accepted}
+use Rattle.record_layout.proofs.RoundTrip.{long, state-lawful}
 use Rattle.lent.specs.Lent.{lentAnswer, lentAfter, lentReading}
 
 -- the lent record after an answer that is done, and after a refusal
@@ -25,17 +27,19 @@ pub left : (b : List ℕ) (a : Answer) → isDone (a .reply) ≡ false → b ≡
 unfolding lentAfter
 left b a d = sym (if-false _ _ _ d)
 
-module _ (b : List ℕ) (read : Answer) (h : read ≡ readRecord b) where
-  reply-is : read .reply ≡ readRecord b .reply
+-- a change
+module _ (b : List ℕ) (read : Answer) (h : read ≡ readCurrent b) where
+  reply-is : read .reply ≡ readCurrent b .reply
   reply-is = ap (λ (a : Answer). a .reply) h
 
-  pub read-lawful : isDone (read .reply) ≡ true → lawfulState (read .state) ≡ true
-  read-lawful d =
-      let r = is-done (readRecord b .reply) (ap isDone (sym reply-is) ∙ d) in
-      ap (λ (a : Answer). lawfulState (a .state)) (h ∙ answer b r) ∙ state-lawful b r
+  taken : isDone (read .reply) ≡ true → accepted current b ≡ true
+  taken d = done-accepted current b (is-done (readCurrent b .reply) (ap isDone (sym reply-is) ∙ d))
 
-  pub read-long : isDone (read .reply) ≡ true → length b ≡ recordLength
-  read-long d = long b (is-done (readRecord b .reply) (ap isDone (sym reply-is) ∙ d))
+  pub read-lawful : isDone (read .reply) ≡ true → lawfulState (read .state) ≡ true
+  read-lawful d = ap (λ (a : Answer). lawfulState (a .state)) (h ∙ accepts current b (taken d)) ∙ state-lawful current b (taken d)
+
+  pub read-long : isDone (read .reply) ≡ true → length b ≡ recordLength current
+  read-long d = long current b (taken d)
 
   -- a record that is read: the call's own answer
   pub answered : (call : State → Answer) (a : Answer) → isDone (read .reply) ≡ true → a ≡ call (read .state) → a ≡ lentAnswer call b
@@ -47,17 +51,22 @@ module _ (b : List ℕ) (read : Answer) (h : read ≡ readRecord b) where
       → (read .reply ≡ lentAnswer call b .reply) × (b ≡ lentAfter b (lentAnswer call b))
   unfolding lentAnswer
   unchanged call d =
-      let e : readRecord b ≡ lentAnswer call b = sym (if-false _ _ _ (ap isDone (sym reply-is) ∙ d)) in
+      let e : readCurrent b ≡ lentAnswer call b = sym (if-false _ _ _ (ap isDone (sym reply-is) ∙ d)) in
       let f : read .reply ≡ lentAnswer call b .reply = reply-is ∙ ap (λ (a : Answer). a .reply) e in
       (f, left b (lentAnswer call b) (ap isDone (sym f) ∙ d))
 
+-- a question
+module _ (b : List ℕ) (read : Answer) (h : read ≡ readRecord b) where
+  same-done : isDone (read .reply) ≡ isDone (readRecord b .reply)
+  same-done = ap (λ (a : Answer). isDone (a .reply)) h
+
   pub told : (call : State → Reading) (a : Reading) → isDone (read .reply) ≡ true → a ≡ call (read .state) → a ≡ lentReading call b
   unfolding lentReading
-  told call a d q = q ∙ ap (λ (x : Answer). call (x .state)) h ∙ sym (if-true _ _ _ (ap isDone (sym reply-is) ∙ d))
+  told call a d q = q ∙ ap (λ (x : Answer). call (x .state)) h ∙ sym (if-true _ _ _ (sym same-done ∙ d))
 
   pub untold : (call : State → Reading) → isDone (read .reply) ≡ false → unread (read .reply) ≡ lentReading call b
   unfolding lentReading
-  untold call d = ap unread reply-is ∙ sym (if-false _ _ _ (ap isDone (sym reply-is) ∙ d))
+  untold call d = ap (λ (x : Answer). unread (x .reply)) h ∙ sym (if-false _ _ _ (sym same-done ∙ d))
 
 -- the two results of a change whose answer is a
 pub changed-by : (call : State → Answer) (b : List ℕ) (a : Answer) (after : List ℕ) → a ≡ lentAnswer call b → after ≡ lentAfter b a

@@ -1,4 +1,5 @@
--- Rules 9.13 and 10.9 for a state lent as its record: 13 stands in the place of 4, and a refusal changes no lent byte.
+-- Rules 7.10, 9.13 and 10.9 for a state lent as its record: 13 stands in the place of 4, and a refusal changes no lent byte. What is written
+-- back takes the place of what was read, so a change takes records of the version that is written alone; a question takes both.
 use mathlib.Core.List.{List}
 use mathlib.Core.Bool.{cond}
 use Prim.Native.Nat.{ℕ}
@@ -12,11 +13,12 @@ use Rattle.state.specs.declared.Answer.{Answer}
 use Rattle.state.specs.Reset.{resetState}
 use Rattle.register_answers.specs.declared.Reading.{Reading}
 use Rattle.register_answers.specs.Answers.{unread}
-use Rattle.record_layout.specs.Record.{recordLength, recordOf, readRecord}
+use Rattle.record_layout.specs.Version.{current}
+use Rattle.record_layout.specs.Record.{recordLength, recordOf, readRecord, readCurrent}
 
 -- what a call that changes a state answers on the state in a lent record, or the refusal of the record
 unfoldable pub lentAnswer : (State → Answer) → List ℕ → Answer
-lentAnswer call b = cond (isDone (readRecord b .reply)) (call (readRecord b .state)) (readRecord b)
+lentAnswer call b = cond (isDone (readCurrent b .reply)) (call (readCurrent b .state)) (readCurrent b)
 
 -- the lent record after an answer: the record of the answer's state, or as it was where the answer is a refusal
 unfoldable pub lentAfter : List ℕ → Answer → List ℕ
@@ -28,8 +30,8 @@ lentReading call b = cond (isDone (readRecord b .reply)) (call (readRecord b .st
 
 -- reset: 3
 abbrev pub resetReply : List ℕ → Reply
-resetReply b = cond (eqb (length b) recordLength) Done BufferLength
+resetReply b = cond (eqb (length b) (recordLength current)) Done BufferLength
 
 -- and the bytes afterwards
 abbrev pub resetIn : List ℕ → List ℕ
-resetIn b = cond (eqb (length b) recordLength) (recordOf resetState) b
+resetIn b = cond (eqb (length b) (recordLength current)) (recordOf resetState) b

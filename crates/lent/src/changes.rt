@@ -1,11 +1,13 @@
-// The calls that change a lent record.
+// The calls that change a lent record. They take version 2 alone: the changed record goes into the same bytes.
 ghost use mathlib.Core.Path.{_≡_};
 ghost use mathlib.Core.Bool.{true};
 ghost use lib.ListN.{length};
 ghost use Rattle.state.specs.Lawful.{lawfulState};
+ghost use Rattle.record_layout.specs.Version.{current};
 ghost use Rattle.record_layout.specs.Record.{recordLength};
 ghost use Rattle.lent.specs.Lent.{lentAnswer, lentAfter, resetReply, resetIn};
 ghost use Rattle.lent.specs.Calls.{changed};
+use record_layout::Version;
 use register_answers::accept;
 use reply::Reply;
 use reply::number;
@@ -33,7 +35,7 @@ fn apply(s: State, c: Change) -> Answer
 
 // The record of an answer's state in the place of the lent one; a refusal leaves it.
 fn store(a: Answer, bytes: &mut [u8])
-    requires { ⌜ length (now bytes) ≡ recordLength ⌝ }
+    requires { ⌜ length (now bytes) ≡ recordLength current ⌝ }
     ensures { λ _. ⌜ now (bytes .exit) ≡ lentAfter (now (bytes .entry)) a ⌝ }
 {
     let r = a.reply;
@@ -49,7 +51,7 @@ pub fn change_record(bytes: &mut [u8], c: Change) -> Reply
     ensures { λ r. ⌜ (r ≡ lentAnswer (changed c) (now (bytes .entry)) .reply)
         × (now (bytes .exit) ≡ lentAfter (now (bytes .entry)) (lentAnswer (changed c) (now (bytes .entry)))) ⌝ }
 {
-    let read = record::read_record(bytes);
+    let read = record::read_current(bytes);
     let r = read.reply;
     if number(r) == 0 {
         let s = read.state;
@@ -66,7 +68,7 @@ pub fn change_record(bytes: &mut [u8], c: Change) -> Reply
 pub fn reset_record(bytes: &mut [u8]) -> Reply
     ensures { λ r. ⌜ (r ≡ resetReply (now (bytes .entry))) × (now (bytes .exit) ≡ resetIn (now (bytes .entry))) ⌝ }
 {
-    if bytes.len() == record_places::places::RECORD_LENGTH {
+    if bytes.len() == record_places::length_of(Version::Version2) {
         record_parts::put_record(state::reset(), bytes);
         Reply::Done
     } else {

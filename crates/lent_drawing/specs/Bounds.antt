@@ -10,12 +10,13 @@ use Rattle.state.specs.Lawful.{lawfulState}
 use Rattle.surface.specs.declared.lines.LineNumber.{LineNumber}
 use Rattle.line_dots.specs.Compose.{composed, stencilOn}
 use Rattle.line.specs.Lines.{tilePalette, tileDotOf}
-use Rattle.record_layout.specs.Record.{recordLength, stateIn}
+use Rattle.record_layout.specs.declared.Version.{Version}
+use Rattle.record_layout.specs.Record.{recordLength, stateAs}
 
--- as many bytes as a record has, and a lawful state in them
-pub record RecordBounds (b : List ℕ) : Type 0 where
-  pub long : length b ≡ recordLength
-  pub lawful : lawfulState (stateIn b) ≡ true
+-- as many bytes as a record of its version has, and a lawful state in them
+pub record RecordBounds (v : Version) (b : List ℕ) : Type 0 where
+  pub long : length b ≡ recordLength v
+  pub lawful : lawfulState (stateAs v b) ≡ true
 
 -- the tile dots of a state composed with the ULA's in a row
 abbrev pub tilesLaid : State → List ℕ → LineNumber → List ℕ → List ℕ

@@ -1,4 +1,4 @@
--- Rule 10.1 by a lent record: 13 stands in the place of 4, after 1, 2 and 3.
+-- Rules 7.10 and 10.1 by a lent record, of either version since a drawing only reads it: 13 stands in the place of 4, after 1, 2 and 3.
 use Prim.Native.Nat.{ℕ}
 use mathlib.Core.List.{List, [], _∷_}
 use lib.ListN.{length}

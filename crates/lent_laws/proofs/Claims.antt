@@ -1,10 +1,11 @@
 -- The claims on lent records. A record that is read holds a lawful and typed state; every change keeps it so, and the record of such a
--- state reads back. A call on it is refused by 4 nowhere.
+-- state reads back. A call on it is refused by 4 nowhere. An old record has the length of no current one, so a change refuses it.
 use Prim.Native.Nat.{ℕ}
-use mathlib.Core.Path.{_≡_, refl, ap, _∙_}
+use mathlib.Core.Path.{_≡_, refl, sym, ap, _∙_}
 use mathlib.Core.List.{List}
 use mathlib.Core.Bool.{Bool, true, false, cond, _&&_}
 use native.Mathlib.Omega.{arith}
+use lib.ListN.{length}
 use lib.Dec.{eqb}
 use Rattle.lists.proofs.Cond.{if-true, either}
 use Rattle.reply.specs.declared.Reply.{Reply}
@@ -24,9 +25,14 @@ use Rattle.register_answers.specs.declared.Reading.{Reading}
 use Rattle.register_answers.specs.Answers.{unread}
 use Rattle.register_laws.specs.Claims.{LawfulStays}
 use Rattle.register_laws.proofs.Claims.{lawfulStays, neverFour}
-use Rattle.record_layout.specs.Record.{stateIn, readRecord}
-use Rattle.record_layout.proofs.Claims.{readLawful}
-use Rattle.record_layout.proofs.RoundTrip.{record-read, answer, state-lawful}
+use Rattle.record_layout.specs.declared.Version.{Version}
+use Rattle.record_layout.specs.declared.Version.the-variants.{Version1}
+use Rattle.record_layout.specs.Version.{current, keptIn}
+use Rattle.record_layout.specs.Record.{recordLength, versionOf, accepted, notRecord, readAs, readRecord, readCurrent}
+use Rattle.record_layout.specs.Claims.{IsRecord}
+use Rattle.record_layout.proofs.Stages.{accepts, refuses, done-accepted}
+use Rattle.record_layout.proofs.RoundTrip.{long, state-lawful}
+use Rattle.record_layout.proofs.Claims.{readsKept, read-told, current-read, readLawful, record-taken}
 use Rattle.line_replies.specs.Replies.{lineReply, lengthsReply, stateReply, loresWithTiles, nextWithPlus, noMode, farOffset}
 use Rattle.lent.specs.declared.changes.Change.{Change}
 use Rattle.lent.specs.declared.changes.Change.the-variants.{NextFrame, Register, Port}
@@ -35,8 +41,8 @@ use Rattle.lent.specs.declared.queries.Query.the-variants as query
 use Rattle.lent.specs.Calls.{changed, asked, ByteWritten}
 use Rattle.lent.specs.Lent.{lentAnswer, lentAfter, lentReading}
 use Rattle.lent_drawing.specs.Drawn.{lentDrawReply}
-use Rattle.lent_laws.specs.Claims.{ChangeReadsBack, NeverNotLawful}
-use Rattle.lent_laws.proofs.NotFour.{NotFour, other, record-not-four}
+use Rattle.lent_laws.specs.Claims.{ChangeReadsBack, NeverNotLawful, OldLeft}
+use Rattle.lent_laws.proofs.NotFour.{NotFour, other, read-not-four, record-not-four}
 
 -- every change keeps a lawful and typed state so
 change-keeps : (c : Change) (s : State) → ByteWritten c → Typed s → lawfulState s ≡ true
@@ -49,32 +55,29 @@ change-keeps (Port n v) s b t h = lawfulStays .1 s n v b t h
 -- an answer that is done reads back, where its state is lawful and typed
 back : (b : List ℕ) (a : Answer) → lawfulState (a .state) ≡ true → Typed (a .state) → a .reply ≡ Done → readRecord (lentAfter b a) ≡ done (a .state)
 unfolding lentAfter
-back b a h t d = ap readRecord (if-true _ _ _ (ap isDone d)) ∙ record-read (a .state) t h
+back b a h t d = ap readRecord (if-true _ _ _ (ap isDone d)) ∙ current-read (a .state) t h
 
 pub changeReadsBack : ChangeReadsBack
 unfolding lentAnswer
 changeReadsBack b c y w d =
-    let r = readLawful b y in
-    let k = change-keeps c (readRecord b .state) w (r .1) (r .0) in
+    let r = readLawful current b y in
+    let k = change-keeps c (readCurrent b .state) w (r .1) (r .0) in
     back b (lentAnswer (changed c) b)
-    (either (λ a. lawfulState (a .state) ≡ true) (isDone (readRecord b .reply)) (changed c (readRecord b .state)) (readRecord b) (k .0) (r .0))
-    (either (λ a. Typed (a .state)) (isDone (readRecord b .reply)) (changed c (readRecord b .state)) (readRecord b) (k .1) (r .1)) d
+    (either (λ a. lawfulState (a .state) ≡ true) (isDone (readCurrent b .reply)) (changed c (readCurrent b .state)) (readCurrent b) (k .0) (r .0))
+    (either (λ a. Typed (a .state)) (isDone (readCurrent b .reply)) (changed c (readCurrent b .state)) (readCurrent b) (k .1) (r .1)) d
 
 -- ---- never 4
 
-state-read : (b : List ℕ) → readRecord b .reply ≡ Done → readRecord b .state ≡ stateIn b
-state-read b r = ap (λ (a : Answer). a .state) (answer b r)
-
 -- a call on the state of a record that is read, or the record's own reply
-asking : {A : Type 0} (reply : A → Reply) (b : List ℕ) (x y : A) → (lawfulState (readRecord b .state) ≡ true → NotFour (reply x))
-    → reply y ≡ readRecord b .reply → NotFour (reply (cond (isDone (readRecord b .reply)) x y))
-asking reply b x y h e = go (isDone (readRecord b .reply)) refl
+asking : {A : Type 0} (reply : A → Reply) (v : Version) (b : List ℕ) (x y : A) → (lawfulState (readAs v b .state) ≡ true → NotFour (reply x))
+    → reply y ≡ readAs v b .reply → NotFour (reply (cond (isDone (readAs v b .reply)) x y))
+asking reply v b x y h e = go (isDone (readAs v b .reply)) refl
   where
-    go : (t : Bool) → isDone (readRecord b .reply) ≡ t → NotFour (reply (cond t x y))
+    go : (t : Bool) → isDone (readAs v b .reply) ≡ t → NotFour (reply (cond t x y))
     go true d =
-        let r = is-done (readRecord b .reply) d in
-        h (ap lawfulState (state-read b r) ∙ state-lawful b r)
-    go false d = rw e (record-not-four b)
+        let r = done-accepted v b (is-done (readAs v b .reply) d) in
+        h (ap (λ (a : Answer). lawfulState (a .state)) (accepts v b r) ∙ state-lawful v b r)
+    go false d = rw e (read-not-four v b)
 
 change-not-four : (c : Change) (s : State) → lawfulState s ≡ true → NotFour (changed c s .reply)
 change-not-four NextFrame s h = rw (frame-done s h) (other Done 0 refl (λ z. omega arith))
@@ -105,11 +108,43 @@ state-not-four s =
     (either NotFour (farOffset (s .tiles)) _ _ (other FarOffset 8 refl (λ z. omega arith)) (other Done 0 refl (λ z. omega arith)))))
 
 pub neverNotLawful : NeverNotLawful
-unfolding lentAnswer lentReading lentDrawReply
+unfolding lentAnswer lentReading lentDrawReply readRecord
 neverNotLawful = record {
-  changes = λ b c. asking (λ (a : Answer). a .reply) b (changed c (readRecord b .state)) (readRecord b) (change-not-four c (readRecord b .state)) refl;
-  queries = λ b q. asking (λ (a : Reading). a .reply) b (asked q (readRecord b .state)) (unread (readRecord b .reply)) (query-not-four q (readRecord b .state)) refl;
+  changes = λ b c. asking (λ (a : Answer). a .reply) current b (changed c (readCurrent b .state)) (readCurrent b) (change-not-four c (readCurrent b .state)) refl;
+  queries = λ b q. asking (λ (a : Reading). a .reply) (versionOf (length b)) b (asked q (readRecord b .state)) (unread (readRecord b .reply)) (query-not-four q (readRecord b .state)) refl;
   drawings =
       λ b line ula tile dots. hit-each NotFour _ (other Done 0 refl (λ z. omega arith))
       (line-not-four line, (lengths-not-four ula tile dots, (record-not-four b, (state-not-four (readRecord b .state), tt))));
+}
+
+-- ---- old records
+
+module _ (b : List ℕ) (r : IsRecord Version1 b) where
+  pub old-long : length b ≡ recordLength Version1
+  old-long = long Version1 b (record-taken Version1 b r)
+
+  pub old-refused : readCurrent b ≡ notRecord
+  old-refused = go (accepted current b) refl
+    where
+      go : (t : Bool) → accepted current b ≡ t → readCurrent b ≡ notRecord
+      go true e = absurd (omega (arith, old-long, long current b e))
+      go false e = refuses current b e
+
+  old-unanswered : (call : State → Answer) → lentAnswer call b ≡ notRecord
+  unfolding lentAnswer
+  old-unanswered call = rw old-refused
+
+  pub old-read : readRecord b ≡ done (keptIn Version1 (r .0))
+  old-read = read-told Version1 b old-long ∙ ap (readAs Version1) (sym (r .3)) ∙ readsKept Version1 (r .0) (r .1) (r .2)
+
+  old-told : (call : State → Reading) → lentReading call b ≡ call (keptIn Version1 (r .0))
+  unfolding lentReading
+  old-told call = rw old-read
+
+pub oldLeft : OldLeft
+unfolding lentAfter
+oldLeft = record {
+  changes =
+      λ b c r. (ap (λ (a : Answer). a .reply) (old-unanswered b r (changed c)), ap (lentAfter b) (old-unanswered b r (changed c)));
+  queries = λ b q r. old-told b r (asked q);
 }

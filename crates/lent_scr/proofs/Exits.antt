@@ -10,7 +10,9 @@ use Rattle.reply.specs.declared.Reply.{Reply}
 use Rattle.reply.specs.Reply.{replyNumber, isDone}
 use Rattle.state.specs.declared.State.{State}
 use Rattle.state.specs.declared.Answer.{Answer}
-use Rattle.record_layout.specs.Record.{recordLength, recordOf, readRecord}
+use Rattle.record_layout.specs.Version.{current}
+use Rattle.record_layout.specs.Record.{recordLength, recordOf, readRecord, readCurrent}
+use Rattle.record_layout.proofs.Stages.{done-accepted}
 use Rattle.record_layout.proofs.RoundTrip.{long}
 use Rattle.ula_mode.specs.declared.modes.Mode.{Mode}
 use Rattle.scr_forms.specs.declared.files.Shape.{Shape}
@@ -26,19 +28,19 @@ use Rattle.scr.proofs.Read as read-laws
 use Rattle.lent_scr.specs.declared.reading.ScreenRead.{ScreenRead}
 use Rattle.lent_scr.specs.Screens.{lentReadReply, screenRead, recordAfter, lentWriteReply}
 
-module _ (b bank file : List ℕ) (read : Answer) (found : Shape) (r : Reply) (n : ℕ) (eb : read ≡ readRecord b) (ef : found ≡ shapeOf file)
+module _ (b bank file : List ℕ) (read : Answer) (found : Shape) (r : Reply) (n : ℕ) (eb : read ≡ readCurrent b) (ef : found ≡ shapeOf file)
     (er : r ≡ readJudged (read .reply) (length bank) (found .mode)) (en : n ≡ replyNumber r) where
-  judged : r ≡ readJudged (readRecord b .reply) (length bank) (found .mode)
+  judged : r ≡ readJudged (readCurrent b .reply) (length bank) (found .mode)
   judged = er ∙ ap (λ (a : Answer). readJudged (a .reply) (length bank) (found .mode)) eb
 
   told : r ≡ lentReadReply b bank file
-  told = read-laws.told (readRecord b .reply) bank file found r n ef judged en
+  told = read-laws.told (readCurrent b .reply) bank file found r n ef judged en
 
-  pub accepted : n ≡ 0 → Readable (readRecord b .reply) (length bank) (found .mode)
-  accepted z = read-laws.accepted (readRecord b .reply) bank file found r n ef judged en z
+  pub accepted : n ≡ 0 → Readable (readCurrent b .reply) (length bank) (found .mode)
+  accepted z = read-laws.accepted (readCurrent b .reply) bank file found r n ef judged en z
 
-  pub record-long : n ≡ 0 → length b ≡ recordLength
-  record-long z = long b (accepted z .sound)
+  pub record-long : n ≡ 0 → length b ≡ recordLength current
+  record-long z = long current b (done-accepted current b (accepted z .sound))
 
   answered : (k : ℕ) → k ≡ screenRead (lentReadReply b bank file) file .colours
       → _≡_ {A = ScreenRead} (record { reply = r; colours = k }) (screenRead (lentReadReply b bank file) file)
@@ -47,7 +49,7 @@ module _ (b bank file : List ℕ) (read : Answer) (found : Shape) (r : Reply) (n
   place-told : n ≡ 0 → (k : ℕ) → k ≡ cond (found .colours) (length file - coloursSize (found .colours)) 0 → k ≡ screenRead (lentReadReply b bank file) file .colours
   place-told z k e =
       e ∙ ap (λ (x : Shape). cond (x .colours) (length file - coloursSize (x .colours)) 0) ef
-      ∙ ap (λ (d : Bool). cond (d && shapeOf file .colours) (coloursAt file) 0) (sym (read-laws.told-done (readRecord b .reply) bank file found r n ef judged en z))
+      ∙ ap (λ (d : Bool). cond (d && shapeOf file .colours) (coloursAt file) 0) (sym (read-laws.told-done (readCurrent b .reply) bank file found r n ef judged en z))
 
   pub screen-stored : n ≡ 0 → (k : ℕ) (x y : List ℕ) → k ≡ cond (found .colours) (length file - coloursSize (found .colours)) 0 → x ≡ recordOf (stateRead (read .state) file)
       → y ≡ filled (formOf (found .mode) .parts) bank file
@@ -57,18 +59,18 @@ module _ (b bank file : List ℕ) (read : Answer) (found : Shape) (r : Reply) (n
   screen-stored z k x y e f g = (
     answered k (place-told z k e),
     f ∙ ap (λ (a : Answer). recordOf (stateRead (a .state) file)) eb
-        ∙ sym (if-true _ _ _ (read-laws.told-done (readRecord b .reply) bank file found r n ef judged en z)),
-    read-laws.bank-read (readRecord b .reply) bank file found r n ef judged en z y g,
+        ∙ sym (if-true _ _ _ (read-laws.told-done (readCurrent b .reply) bank file found r n ef judged en z)),
+    read-laws.bank-read (readCurrent b .reply) bank file found r n ef judged en z y g,
   )
 
   pub unread : (n ≡ 0 → ⊥) → (_≡_ {A = ScreenRead} (record { reply = r; colours = 0 }) (screenRead (lentReadReply b bank file) file))
       × (b ≡ recordAfter (lentReadReply b bank file) b file) × (bank ≡ bankAfter (lentReadReply b bank file) bank file)
   unfolding lentAfter
   unread z =
-      let d = read-laws.told-not (readRecord b .reply) bank file found r n ef judged en z in (
+      let d = read-laws.told-not (readCurrent b .reply) bank file found r n ef judged en z in (
         answered 0 (ap (λ (x : Bool). cond (x && shapeOf file .colours) (coloursAt file) 0) (sym d)),
         sym (if-false _ _ _ d),
-        read-laws.bank-left (readRecord b .reply) bank file found r n ef judged en z,
+        read-laws.bank-left (readCurrent b .reply) bank file found r n ef judged en z,
       )
 
 -- the place told is at most the length of the longest file, and so is the length told

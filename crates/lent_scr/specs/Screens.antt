@@ -1,11 +1,12 @@
--- Rules 10.9 to 10.11 by a lent record: 13 stands in the place of 4, after 2 and, in writing, 3.
+-- Rules 7.10 and 10.9 to 10.11 by a lent record: 13 stands in the place of 4, after 2 and, in writing, 3. Reading a file changes the record,
+-- which therefore is of the version that is written; writing one only reads it, and takes both.
 use Prim.Native.Nat.{ℕ}
 use mathlib.Core.List.{List}
 use mathlib.Core.Bool.{cond, _&&_}
 use lib.ListN.{length}
 use Rattle.reply.specs.declared.Reply.{Reply}
 use Rattle.reply.specs.Reply.{isDone}
-use Rattle.record_layout.specs.Record.{readRecord}
+use Rattle.record_layout.specs.Record.{readRecord, readCurrent}
 use Rattle.lent.specs.Lent.{lentAfter}
 use Rattle.scr_forms.specs.Files.{shapeOf, coloursAt}
 use Rattle.scr_replies.specs.Judged.{readJudged, writeJudged}
@@ -15,11 +16,11 @@ use Rattle.lent_scr.specs.declared.reading.ScreenRead.{ScreenRead}
 
 -- reading: 2, 13, 14
 abbrev pub lentReadReply : List ℕ → List ℕ → List ℕ → Reply
-lentReadReply b bank file = readJudged (readRecord b .reply) (length bank) (shapeOf file .mode)
+lentReadReply b bank file = readJudged (readCurrent b .reply) (length bank) (shapeOf file .mode)
 
 -- the record after a reply to reading: that of the state that shows the file; refused, as it was
 abbrev pub recordAfter : Reply → List ℕ → List ℕ → List ℕ
-recordAfter r b file = lentAfter b (record { reply = r; state = stateRead (readRecord b .state) file })
+recordAfter r b file = lentAfter b (record { reply = r; state = stateRead (readCurrent b .state) file })
 
 -- what reading answers: the reply, and the place of the colours in the file, 0 where there are none
 abbrev pub screenRead : Reply → List ℕ → ScreenRead

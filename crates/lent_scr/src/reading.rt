@@ -1,10 +1,11 @@
-// Reading a screen file into a lent record.
+// Reading a screen file into a lent record, of version 2: the new state's record goes into the same bytes.
 ghost use mathlib.Core.Path.{_≡_};
-ghost use mathlib.Core.Bool.{Bool, true, cond};
+ghost use mathlib.Core.Bool.{true, cond};
 ghost use Prim.Native.Nat.{_-_, _≤_};
 ghost use lib.ListN.{length};
+ghost use Rattle.record_layout.specs.Version.{current};
 ghost use Rattle.record_layout.specs.Record.{recordLength, recordOf};
-ghost use Rattle.scr_forms.specs.Forms.{formOf, hasForm, sizes, filled};
+ghost use Rattle.scr_forms.specs.Forms.{formOf, hasForm, filled};
 ghost use Rattle.scr_forms.specs.Files.{coloursSize, shapeOf};
 ghost use Rattle.scr.specs.Reads.{stateRead, bankAfter};
 ghost use Rattle.lent_scr.specs.Screens.{lentReadReply, screenRead, recordAfter};
@@ -36,7 +37,7 @@ fn place(colours: bool, length: usize) -> usize
 
 // Fills the bank and stores the state that shows a file whose form is found.
 fn store_screen(bytes: &mut [u8], bank: &mut [u8], s: State, found: Shape, file: &[u8])
-    requires { ⌜ (length (now bytes) ≡ recordLength) × (length (now bank) ≡ 16384) × (found ≡ shapeOf (now file)) × (hasForm (found .mode) ≡ true) ⌝ }
+    requires { ⌜ (length (now bytes) ≡ recordLength current) × (length (now bank) ≡ 16384) × (found ≡ shapeOf (now file)) × (hasForm (found .mode) ≡ true) ⌝ }
     ensures { λ _. ⌜ (now (bytes .exit) ≡ recordOf (stateRead s (now (file .entry))))
         × (now (bank .exit) ≡ filled (formOf (found .mode) .parts) (now (bank .entry)) (now (file .entry))) ⌝ }
 {
@@ -54,7 +55,7 @@ pub fn read_scr_record(bytes: &mut [u8], bank: &mut [u8], file: &[u8]) -> Screen
 {
     let found = shape_of(file);
     let mode = found.mode;
-    let read = record::read_record(bytes);
+    let read = record::read_current(bytes);
     let stored = read.reply;
     let r = read_reply(stored, bank.len(), mode);
     if number(r) == 0 {

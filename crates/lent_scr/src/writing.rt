@@ -1,4 +1,4 @@
-// Writing a screen file from a lent record.
+// Writing a screen file from a lent record, of either version.
 ghost use mathlib.Core.Path.{_≡_};
 ghost use Rattle.record_layout.specs.Record.{readRecord};
 ghost use Rattle.scr.specs.Writes.{writtenAnswer, fileAfter};

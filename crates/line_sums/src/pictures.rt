@@ -1,6 +1,7 @@
 // A record and two banks by name, and the sums of the 256 lines that they draw.
 use crate::adler::line_sum;
 use host::files::bytes_of;
+use host::records::RECORD_FILE;
 use host::report;
 use state::State;
 use surface::LineNumber;
@@ -50,7 +51,7 @@ fn print_names(record: &[u8], ula: &[u8], tile: &[u8]) {
 // is refused as too short.
 pub fn draw_case(record_path: &[u8], ula_path: &[u8], tile_path: &[u8]) {
     print_names(record_path, ula_path, tile_path);
-    let mut record = [0u8; 2151];
+    let mut record = [0u8; RECORD_FILE];
     let mut ula = [0u8; 16385];
     let mut tile = [0u8; 16385];
     let r = bytes_of(record_path, &mut record);

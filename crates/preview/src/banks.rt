@@ -4,6 +4,7 @@ use crate::files::load;
 use crate::output;
 use host::files::Read;
 
+// A buffer is one byte longer than its file must be, so that a longer file shows.
 const BANK: usize = 16385;
 
 fn draw_record(record: &[u8], ula: &[u8], tile: &[u8]) {

@@ -10,9 +10,7 @@ mod screens;
 
 use files::load;
 use host::files::Read;
-
-// A buffer is one byte longer than its file must be, so that a longer file shows.
-const RECORD: usize = 2151;
+use host::records::RECORD_FILE;
 
 fn draw_example() {
     let ula = example_screen::example_ula();
@@ -30,7 +28,7 @@ fn draw_named(record: &[u8], names: usize) {
 }
 
 fn load_record(names: usize) {
-    let mut record = [0u8; RECORD];
+    let mut record = [0u8; RECORD_FILE];
     if let Read::Bytes(n) = load(1, &mut record) {
         draw_named(&record[..n], names);
     }

@@ -14,6 +14,7 @@ use Rattle.reply.specs.First.{firstOf}
 use Rattle.reply.proofs.Done.{refused, test-met}
 use Rattle.state.specs.declared.State.{State}
 use Rattle.state.specs.Lawful.{lawfulState}
+use Rattle.record_layout.specs.Version.{current}
 use Rattle.record_layout.specs.Record.{recordLength, recordOf, writeReply, writtenIn}
 
 ordered : (long lawful : Bool) → firstOf (cond long Done BufferLength) (cond lawful Done NotLawful) ≡ cond long (cond lawful Done NotLawful) BufferLength
@@ -33,20 +34,20 @@ unput false lawful written target d = refl
 
 module _ (target : List ℕ) (s : State) (r : Reply) (er : r ≡ writeReply target s) where
   -- every answer but 3 has met the length
-  pub long-enough : (replyNumber r ≡ 3 → ⊥) → length target ≡ recordLength
-  long-enough z = go (eqb (length target) recordLength) refl
+  pub long-enough : (replyNumber r ≡ 3 → ⊥) → length target ≡ recordLength current
+  long-enough z = go (eqb (length target) (recordLength current)) refl
     where
-      go : (b : Bool) → eqb (length target) recordLength ≡ b → length target ≡ recordLength
-      go true e = eqb-true (length target) recordLength e
-      go false e = absurd (z (ap replyNumber (er ∙ if-false (eqb (length target) recordLength) _ _ e)))
+      go : (b : Bool) → eqb (length target) (recordLength current) ≡ b → length target ≡ recordLength current
+      go true e = eqb-true (length target) (recordLength current) e
+      go false e = absurd (z (ap replyNumber (er ∙ if-false (eqb (length target) (recordLength current)) _ _ e)))
 
   pub put-whole : (after : List ℕ) → r ≡ Done → after ≡ recordOf s → (r ≡ writeReply target s) × (after ≡ writtenIn target s)
   put-whole after d e =
-      let l = test-met (eqb (length target) recordLength) (cond (lawfulState s) Done NotLawful) BufferLength refl (sym er ∙ d) in
+      let l = test-met (eqb (length target) (recordLength current)) (cond (lawfulState s) Done NotLawful) BufferLength refl (sym er ∙ d) in
       let h = test-met (lawfulState s) Done NotLawful refl (l .1) .0 in
-      (er, e ∙ sym (if-true (eqb (length target) recordLength) _ _ (l .0) ∙ if-true (lawfulState s) _ _ h))
+      (er, e ∙ sym (if-true (eqb (length target) (recordLength current)) _ _ (l .0) ∙ if-true (lawfulState s) _ _ h))
 
   pub left-alone : (replyNumber r ≡ 0 → ⊥) → (r ≡ writeReply target s) × (target ≡ writtenIn target s)
   left-alone z =
       let f : isDone (writeReply target s) ≡ false = sym (ap isDone er) ∙ ne-eqb (replyNumber r) 0 z in
-      (er, unput (eqb (length target) recordLength) (lawfulState s) (recordOf s) target f)
+      (er, unput (eqb (length target) (recordLength current)) (lawfulState s) (recordOf s) target f)

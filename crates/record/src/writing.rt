@@ -2,33 +2,25 @@
 ghost use mathlib.Core.Path.{_≡_};
 ghost use mathlib.Core.Bool.{cond};
 ghost use lib.Dec.{eqb};
-ghost use Rattle.reply.specs.declared.Reply.the-variants.{Done, BufferLength};
+ghost use Rattle.reply.specs.declared.Reply.the-variants.{BufferLength};
 ghost use Rattle.state.specs.Lawful.{lawfulReply};
+ghost use Rattle.record_layout.specs.Version.{current};
 ghost use Rattle.record_layout.specs.Record.{recordLength, writeReply, writtenIn};
+use record_layout::Version;
 use record_parts::put_record;
-use record_places::places;
+use record_places::length_of;
 use reply::Reply;
 use reply::first_of;
+use reply::length_reply;
 use reply::number;
 use state::State;
 use state::lawful_reply;
 
-// A target that is not as long as a record is refused.
-fn length_reply(length: usize) -> Reply
-    ensures { λ r. ⌜ r ≡ cond (eqb length recordLength) Done BufferLength ⌝ }
-{
-    if length == places::RECORD_LENGTH {
-        Reply::Done
-    } else {
-        Reply::BufferLength
-    }
-}
-
 // What refuses a writing, the length before the state.
 fn write_reply(length: usize, s: State) -> Reply
-    ensures { λ r. ⌜ r ≡ cond (eqb length recordLength) (lawfulReply s) BufferLength ⌝ }
+    ensures { λ r. ⌜ r ≡ cond (eqb length (recordLength current)) (lawfulReply s) BufferLength ⌝ }
 {
-    let long = length_reply(length);
+    let long = length_reply(length, length_of(Version::Version2), Reply::BufferLength);
     let sound = lawful_reply(s);
     first_of(long, sound)
 }

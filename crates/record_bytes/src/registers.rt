@@ -3,20 +3,23 @@ ghost use mathlib.Core.Path.{_≡_};
 ghost use lib.ListN.{take, drop};
 ghost use Rattle.record_layout.specs.Fields.{flagByte};
 ghost use Rattle.record_layout.specs.Parts.{bytesOf};
-ghost use Rattle.record_layout.specs.Layout.{layout};
+ghost use Rattle.record_layout.specs.Layout.{afterScrolls};
 ghost use Rattle.record_layout.specs.Version.{current};
 ghost use Rattle.record_layout.specs.Places.{ulaClipPlace};
 ghost use Rattle.record_layout.specs.Record.{recordOf};
+use record_layout::Version;
+use record_places::head_of;
 use state::State;
 
-// The number of bytes following, the version, and the 18 registers before the clips.
-pub fn before_clips(s: State) -> [u8; 21]
-    ensures { λ r. ⌜ r ≡ take ulaClipPlace (recordOf s) ⌝ }
+// The number of bytes following, the version, and the 20 registers before the clips.
+pub fn before_clips(s: State) -> [u8; 23]
+    ensures { λ r. ⌜ r ≡ take (ulaClipPlace current) (recordOf s) ⌝ }
 {
+    let head = head_of(Version::Version2);
     [
-        8,
-        100,
-        1,
+        head[0],
+        head[1],
+        head[2],
         s.ula.transparent,
         s.ula.layers,
         s.ula.peripheral,
@@ -33,6 +36,8 @@ pub fn before_clips(s: State) -> [u8; 21]
         s.tiles.y,
         s.tiles.map,
         s.tiles.definitions,
+        s.ula.loresx,
+        s.ula.loresy,
         s.ula.x,
         s.ula.y,
     ]
@@ -46,7 +51,7 @@ fn flag_byte(flag: bool) -> u8
 
 // The nine parts after the clips.
 pub fn after_clips(s: State) -> [u8; 9]
-    ensures { λ r. ⌜ r ≡ bytesOf (take 9 (drop 20 (layout current))) s ⌝ }
+    ensures { λ r. ⌜ r ≡ bytesOf (take 9 (drop 2 afterScrolls)) s ⌝ }
 {
     let held = flag_byte(s.palette.held);
     let plus = flag_byte(s.ports.plus);

@@ -26,7 +26,7 @@ argument-typed s good =
     let f = groups .1 .1 .1 .1 .1 in
     let a = f .1 in
     record {
-      ula = let g = groups .0 in let h = g .1 .1 .1 .1 in search needs;
+      ula = let g = groups .0 in let h = g .1 .1 .1 .1 .1 .1 in search needs;
       tiles = let g = groups .1 .0 in let h = g .1 .1 .1 .1 .1 in search needs;
       palette = let g = groups .1 .1 .0 in let h = g .1 .1 .1 in search needs;
       turns = let g = groups .1 .1 .1 .0 in search needs;

@@ -1,8 +1,11 @@
 pub mod Fields
 pub mod Parts
+pub mod From
 pub mod Whole
 pub mod Bounds
 pub mod Stages
+pub mod Read
+pub mod Runs
 pub mod Types
 pub mod RoundTrip
 pub mod Arguments

@@ -17,7 +17,7 @@ use Rattle.lists.proofs.Search.{least-found, least-none, some-not, not-both}
 use Rattle.state.specs.declared.State.{State}
 use Rattle.record_layout.specs.Fields.{Width, byte, pair, fieldSize, fieldAt, rowBytes, rowAt}
 use Rattle.record_layout.specs.Parts.{Part, one, row, size, sizes, bytesOf, FromParts, stateAt, badPart, bad}
-use Rattle.record_layout.specs.Version.{Version}
+use Rattle.record_layout.specs.declared.Version.{Version}
 use Rattle.record_layout.specs.Layout.{layout}
 use Rattle.record_layout.specs.Places.{partsPlace}
 use Rattle.record_layout.specs.Record.{firstBad, sound}
@@ -96,6 +96,21 @@ later zero ps b at g = g
 later (suc n) [] b at g = g
 later (suc n) (one bound field ∷ ps) b at g = later n ps b (at + 1) (g .1)
 later (suc n) (row w m bound field ∷ ps) b at g = later n ps b (at + fieldSize w * m) (g .1)
+
+-- the place after the parts; the fields of parts in a row are those of the first parts and of those after them
+abbrev pub placeAfter : List Part → ℕ → ℕ
+placeAfter [] at = at
+placeAfter (p ∷ ps) at = placeAfter ps (at + size p)
+
+pub good-apart : (ps qs : List Part) (b : List ℕ) (at : ℕ) → Good (ps ++ qs) b at → Good ps b at × Good qs b (placeAfter ps at)
+good-apart [] qs b at g = (tt, g)
+good-apart (one bound field ∷ ps) qs b at g = let h = good-apart ps qs b (at + 1) (g .1) in ((g .0, h .0), h .1)
+good-apart (row w n bound field ∷ ps) qs b at g = let h = good-apart ps qs b (at + fieldSize w * n) (g .1) in ((g .0, h .0), h .1)
+
+pub good-join : (ps qs : List Part) (b : List ℕ) (at : ℕ) → Good ps b at → Good qs b (placeAfter ps at) → Good (ps ++ qs) b at
+good-join [] qs b at g h = h
+good-join (one bound field ∷ ps) qs b at g h = (g .0, good-join ps qs b (at + 1) (g .1) h)
+good-join (row w n bound field ∷ ps) qs b at g h = (g .0, good-join ps qs b (at + fieldSize w * n) (g .1) h)
 
 either : (a b : Bool) → a ≡ false → b ≡ false → (a || b) ≡ false
 either a b e f = cc

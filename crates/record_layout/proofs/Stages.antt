@@ -12,7 +12,8 @@ use Rattle.reply.specs.declared.Reply.the-variants.{Done, NotRecord}
 use Rattle.state.specs.declared.Answer.{Answer}
 use Rattle.state.specs.Answer.{done}
 use Rattle.record_layout.specs.Fields.{pair, fieldAt}
-use Rattle.record_layout.specs.Version.{Version, versionNumber}
+use Rattle.record_layout.specs.declared.Version.{Version}
+use Rattle.record_layout.specs.Version.{versionNumber}
 use Rattle.record_layout.specs.Places.{countPlace, versionPlace}
 use Rattle.record_layout.specs.Record.{following, counted, versioned, sound, accepted, stateAs, notRecord, readAs}
 

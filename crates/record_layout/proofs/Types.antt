@@ -12,7 +12,11 @@ use Rattle.lists.specs.Tab.{tab}
 use Rattle.lists.proofs.Tab.{length-tab, getD-tab}
 use Rattle.state.specs.Typed.{Numbers, Typed}
 use Rattle.record_layout.specs.Fields.{byte, pair, fieldAt, rowAt}
-use Rattle.record_layout.specs.Record.{stateAs, stateIn}
+use Rattle.record_layout.specs.declared.Version.{Version}
+use Rattle.record_layout.specs.declared.Version.the-variants.{Version1, Version2}
+use Rattle.record_layout.specs.Places.{loresXPlace, loresYPlace, ulaXPlace, ulaYPlace, ulaClipPlace}
+use Rattle.record_layout.specs.Record.{stateAs}
+use Rattle.record_layout.proofs.From.{stateFrom}
 
 numbers-tab : (f : ℕ → ℕ) (n bound : ℕ) → 0 < bound → ((i : ℕ) → f i < bound) → Numbers n bound (tab f n)
 numbers-tab f n bound z h = record { long = length-tab f n; below = λ i. go i (ltb i n) refl }
@@ -31,10 +35,9 @@ module _ (b : List ℕ) (y : Bytes b) where
   row-pairs at =
       numbers-tab (λ (i : ℕ). fieldAt pair b (at + 2 * i)) 256 65536 (omega arith) (λ i. omega (arith, y (at + 2 * i), y (at + 2 * i + 1)))
 
-  pub state-typed : Typed (stateIn b)
-  unfolding stateAs
-  state-typed = record {
-    ula = record { transparent = y _; layers = y _; peripheral = y _; fallback = y _; control = y _; x = y _; y = y _ };
+  typed-from : (x k at : ℕ) → Typed (stateFrom b x k at)
+  typed-from x k at = record {
+    ula = record { transparent = y _; layers = y _; peripheral = y _; fallback = y _; control = y _; x = y _; y = y _; loresx = y _; loresy = y _ };
     tiles = record { transparent = y _; control = y _; attribute = y _; xhigh = y _; xlow = y _; y = y _; map = y _; definitions = y _ };
     palette = record { control = y _; index = y _; mask = y _; half = y _ };
     turns = record { ula = y _; tiles = y _ };
@@ -48,3 +51,8 @@ module _ (b : List ℕ) (y : Bytes b) where
     tilefirst = row-pairs _;
     tilesecond = row-pairs _;
   }
+
+  pub state-typed : (v : Version) → Typed (stateAs v b)
+  unfolding stateAs
+  state-typed Version1 = typed-from loresXPlace loresYPlace (ulaClipPlace Version1)
+  state-typed Version2 = typed-from (ulaXPlace Version2) (ulaYPlace Version2) (ulaClipPlace Version2)

@@ -1,14 +1,15 @@
 -- Rules 7.2 and 7.3: a record's parts in their order, each with its bound of section 3.
 use Prim.Native.Nat.{ℕ}
-use mathlib.Core.List.{List, [], _∷_}
+use mathlib.Core.List.{List, [], _∷_, _++_}
 use mathlib.Core.Bool.{Bool, true}
 use lib.Dec.{leb, eqb}
 use Rattle.state.specs.declared.State.{State}
-use Rattle.register_bounds.specs.Bounds.{ulaYFits, isMask, isChoice, halfFits, tileTransparentFits, ulaControlFits, tileControlFits, xHighFits, baseFits, turnFits, borderFits, selectFits, colourFits}
+use Rattle.register_bounds.specs.Bounds.{offsetYFits, isMask, isChoice, halfFits, tileTransparentFits, ulaControlFits, tileControlFits, xHighFits, baseFits, turnFits, borderFits, selectFits, colourFits}
 use Rattle.state.specs.With.{stateOf}
 use Rattle.record_layout.specs.Fields.{byte, pair, flagByte}
 use Rattle.record_layout.specs.Parts.{Part, one, row, FromParts}
-use Rattle.record_layout.specs.Version.{Version, version1}
+use Rattle.record_layout.specs.declared.Version.{Version}
+use Rattle.record_layout.specs.declared.Version.the-variants.{Version1, Version2}
 
 -- any byte
 abbrev pub any : (State → ℕ) → Part
@@ -33,9 +34,9 @@ bytes n field = row byte n (λ v. true) field
 abbrev pub palette : (State → List ℕ) → Part
 palette field = row pair 256 colourFits field
 
--- the parts in their order
-abbrev pub layout : Version → List Part
-layout version1 =
+-- the parts up to $33, in their order
+abbrev pub beforeScrolls : List Part
+beforeScrolls =
     -- $14
     any (λ s. s .ula .transparent)
     -- $15
@@ -69,11 +70,21 @@ layout version1 =
     -- $6F
     ∷ checked baseFits (λ s. s .tiles .definitions)
     -- $32
-    ∷ any (λ s. s .ula .x)
+    ∷ any (λ s. s .ula .loresx)
     -- $33
-    ∷ checked ulaYFits (λ s. s .ula .y)
+    ∷ checked offsetYFits (λ s. s .ula .loresy)
+    ∷ []
+
+-- then in version 2 the ULA's offsets, $26 and $27
+abbrev pub scrolls : Version → List Part
+scrolls Version1 = []
+scrolls Version2 = any (λ s. s .ula .x) ∷ checked offsetYFits (λ s. s .ula .y) ∷ []
+
+-- the parts after them
+abbrev pub afterScrolls : List Part
+afterScrolls =
     -- ULA clip
-    ∷ bytes 4 (λ s. s .ulaclip)
+    bytes 4 (λ s. s .ulaclip)
     -- tilemap clip
     ∷ bytes 4 (λ s. s .tileclip)
     -- ULA turn
@@ -103,12 +114,16 @@ layout version1 =
     ∷ palette (λ s. s .tilesecond)
     ∷ []
 
--- the state of what the parts of version 1 hold, in their order
-abbrev pub fromParts1 : FromParts (layout version1)
-fromParts1 transparent layers peripheral choice index mask fallback tile control tilemap attribute xhigh xlow tiley map definitions x y
-    ulaclip tileclip ulaturn tileturn held half border timex select on frame plus ulafirst ulasecond tilefirst tilesecond =
+-- the parts of a version, in their order
+abbrev pub layout : Version → List Part
+layout v = beforeScrolls ++ (scrolls v ++ afterScrolls)
+
+-- the state of what the parts of version 2 hold, in their order
+abbrev pub fromParts2 : FromParts (layout Version2)
+fromParts2 transparent layers peripheral choice index mask fallback tile control tilemap attribute xhigh xlow tiley map definitions loresx loresy
+    x y ulaclip tileclip ulaturn tileturn held half border timex select on frame plus ulafirst ulasecond tilefirst tilesecond =
     stateOf
-    (record { transparent = transparent; layers = layers; peripheral = peripheral; fallback = fallback; control = control; x = x; y = y })
+    (record { transparent = transparent; layers = layers; peripheral = peripheral; fallback = fallback; control = control; x = x; y = y; loresx = loresx; loresy = loresy })
     (record { transparent = tile; control = tilemap; attribute = attribute; xhigh = xhigh; xlow = xlow; y = tiley; map = map; definitions = definitions })
     (record { control = choice; index = index; mask = mask; held = eqb held 1; half = half })
     (record { ula = ulaturn; tiles = tileturn })
@@ -116,6 +131,13 @@ fromParts1 transparent layers peripheral choice index mask fallback tile control
     frame
     ulaclip tileclip plus ulafirst ulasecond tilefirst tilesecond
 
+-- and of version 1: $26 and $27, which it does not have, are its $32 and $33
+abbrev pub fromParts1 : FromParts (layout Version1)
+fromParts1 transparent layers peripheral choice index mask fallback tile control tilemap attribute xhigh xlow tiley map definitions loresx loresy =
+    fromParts2 transparent layers peripheral choice index mask fallback tile control tilemap attribute xhigh xlow tiley map definitions loresx loresy
+    loresx loresy
+
 -- the state of what the parts of a version hold
 abbrev pub fromLayout : (v : Version) → FromParts (layout v)
-fromLayout version1 = fromParts1
+fromLayout Version1 = fromParts1
+fromLayout Version2 = fromParts2

@@ -1,6 +1,9 @@
 -- Rule 7.2: the places of a record's parts, counted from the front, by name. `PlacesAreSums` ties them to the layout.
-use Prim.Native.Nat.{ℕ}
-use mathlib.Core.List.{List, [], _∷_}
+use Prim.Native.Nat.{ℕ, _+_}
+use mathlib.Core.List.{List, [], _∷_, _++_}
+use Rattle.record_layout.specs.declared.Version.{Version}
+use Rattle.record_layout.specs.declared.Version.the-variants.{Version1, Version2}
+use Rattle.record_layout.specs.Version.{added}
 
 -- the number of bytes following, two bytes
 abbrev pub countPlace : ℕ
@@ -78,74 +81,90 @@ abbrev pub definitionsPlace : ℕ
 definitionsPlace = 18
 
 -- $32
-abbrev pub ulaXPlace : ℕ
-ulaXPlace = 19
+abbrev pub loresXPlace : ℕ
+loresXPlace = 19
 
 -- $33
-abbrev pub ulaYPlace : ℕ
-ulaYPlace = 20
+abbrev pub loresYPlace : ℕ
+loresYPlace = 20
+
+-- $26, or what is read as it
+abbrev pub ulaXPlace : Version → ℕ
+ulaXPlace v = loresXPlace + added v
+
+-- $27, or what is read as it
+abbrev pub ulaYPlace : Version → ℕ
+ulaYPlace v = loresYPlace + added v
+
+-- from here on the parts stand further back where a version has more before them
 
 -- X1, X2, Y1, Y2 of $1A
-abbrev pub ulaClipPlace : ℕ
-ulaClipPlace = 21
+abbrev pub ulaClipPlace : Version → ℕ
+ulaClipPlace v = 21 + added v
 
 -- X1, X2, Y1, Y2 of $1B
-abbrev pub tileClipPlace : ℕ
-tileClipPlace = 25
+abbrev pub tileClipPlace : Version → ℕ
+tileClipPlace v = 25 + added v
 
-abbrev pub ulaTurnPlace : ℕ
-ulaTurnPlace = 29
+abbrev pub ulaTurnPlace : Version → ℕ
+ulaTurnPlace v = 29 + added v
 
-abbrev pub tileTurnPlace : ℕ
-tileTurnPlace = 30
+abbrev pub tileTurnPlace : Version → ℕ
+tileTurnPlace v = 30 + added v
 
 -- whether a half colour is held
-abbrev pub heldPlace : ℕ
-heldPlace = 31
+abbrev pub heldPlace : Version → ℕ
+heldPlace v = 31 + added v
 
 -- the held byte
-abbrev pub halfPlace : ℕ
-halfPlace = 32
+abbrev pub halfPlace : Version → ℕ
+halfPlace v = 32 + added v
 
-abbrev pub borderPlace : ℕ
-borderPlace = 33
+abbrev pub borderPlace : Version → ℕ
+borderPlace v = 33 + added v
 
 -- $FF
-abbrev pub timexPlace : ℕ
-timexPlace = 34
+abbrev pub timexPlace : Version → ℕ
+timexPlace v = 34 + added v
 
 -- $BF3B
-abbrev pub selectPlace : ℕ
-selectPlace = 35
+abbrev pub selectPlace : Version → ℕ
+selectPlace v = 35 + added v
 
 -- ULAplus on
-abbrev pub plusOnPlace : ℕ
-plusOnPlace = 36
+abbrev pub plusOnPlace : Version → ℕ
+plusOnPlace v = 36 + added v
 
-abbrev pub framePlace : ℕ
-framePlace = 37
+abbrev pub framePlace : Version → ℕ
+framePlace v = 37 + added v
 
 -- the 64 ULAplus registers
-abbrev pub plusPlace : ℕ
-plusPlace = 38
+abbrev pub plusPlace : Version → ℕ
+plusPlace v = 38 + added v
 
-abbrev pub ulaFirstPlace : ℕ
-ulaFirstPlace = 102
+abbrev pub ulaFirstPlace : Version → ℕ
+ulaFirstPlace v = 102 + added v
 
-abbrev pub ulaSecondPlace : ℕ
-ulaSecondPlace = 614
+abbrev pub ulaSecondPlace : Version → ℕ
+ulaSecondPlace v = 614 + added v
 
-abbrev pub tileFirstPlace : ℕ
-tileFirstPlace = 1126
+abbrev pub tileFirstPlace : Version → ℕ
+tileFirstPlace v = 1126 + added v
 
-abbrev pub tileSecondPlace : ℕ
-tileSecondPlace = 1638
+abbrev pub tileSecondPlace : Version → ℕ
+tileSecondPlace v = 1638 + added v
+
+-- the places of what version 2 has more
+abbrev pub scrollPlaces : Version → List ℕ
+scrollPlaces Version1 = []
+scrollPlaces Version2 = ulaXPlace Version2 ∷ ulaYPlace Version2 ∷ []
 
 -- the places of the parts, in their order
-abbrev pub namedPlaces : List ℕ
-namedPlaces =
+abbrev pub namedPlaces : Version → List ℕ
+namedPlaces v =
     ulaTransparentPlace ∷ layersPlace ∷ peripheralPlace ∷ paletteControlPlace ∷ indexPlace ∷ maskPlace ∷ fallbackPlace
     ∷ tileTransparentPlace ∷ ulaControlPlace ∷ tileControlPlace ∷ attributePlace ∷ tileXHighPlace ∷ tileXLowPlace ∷ tileYPlace
-    ∷ mapPlace ∷ definitionsPlace ∷ ulaXPlace ∷ ulaYPlace ∷ ulaClipPlace ∷ tileClipPlace ∷ ulaTurnPlace ∷ tileTurnPlace
-    ∷ heldPlace ∷ halfPlace ∷ borderPlace ∷ timexPlace ∷ selectPlace ∷ plusOnPlace ∷ framePlace ∷ plusPlace
-    ∷ ulaFirstPlace ∷ ulaSecondPlace ∷ tileFirstPlace ∷ tileSecondPlace ∷ []
+    ∷ mapPlace ∷ definitionsPlace ∷ loresXPlace ∷ loresYPlace ∷ scrollPlaces v ++
+    (ulaClipPlace v ∷ tileClipPlace v ∷ ulaTurnPlace v ∷ tileTurnPlace v
+    ∷ heldPlace v ∷ halfPlace v ∷ borderPlace v ∷ timexPlace v ∷ selectPlace v ∷ plusOnPlace v ∷ framePlace v ∷ plusPlace v
+    ∷ ulaFirstPlace v ∷ ulaSecondPlace v ∷ tileFirstPlace v ∷ tileSecondPlace v ∷ [])

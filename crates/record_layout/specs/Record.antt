@@ -1,7 +1,7 @@
--- Rules 7.1, 7.4 to 7.6, 9.3, 9.4, 9.13, 10.0, 10.6, 10.7 and 10.9: a record, from its head on, what reading one accepts, and what writing
--- one answers.
+-- Rules 7.1, 7.4 to 7.6, 7.9, 7.10, 9.3, 9.4, 9.13, 10.0, 10.6, 10.7 and 10.9: a record, from its head on, what reading one accepts, and
+-- what writing one answers.
 use Prim.Native.Nat.{ℕ, _+_}
-use mathlib.Core.List.{List, _∷_, _++_}
+use mathlib.Core.List.{List, [], _∷_, _++_}
 use mathlib.Core.Bool.{Bool, cond, _&&_}
 use lib.ListN.{length, getD}
 use lib.Dec.{eqb}
@@ -15,7 +15,9 @@ use Rattle.state.specs.Lawful.{lawfulState, lawfulReply}
 use Rattle.state.specs.Reset.{resetState}
 use Rattle.record_layout.specs.Fields.{pair, fieldBytes, fieldAt}
 use Rattle.record_layout.specs.Parts.{sizes, bytesOf, stateAt, bad}
-use Rattle.record_layout.specs.Version.{Version, versionNumber, current}
+use Rattle.record_layout.specs.declared.Version.{Version}
+use Rattle.record_layout.specs.declared.Version.the-variants.{Version1, Version2}
+use Rattle.record_layout.specs.Version.{versionNumber, added, current}
 use Rattle.record_layout.specs.Layout.{layout, fromLayout}
 use Rattle.record_layout.specs.Places.{countPlace, versionPlace, partsPlace}
 
@@ -23,13 +25,21 @@ use Rattle.record_layout.specs.Places.{countPlace, versionPlace, partsPl
 abbrev pub following : Version → ℕ
 following v = 1 + sizes (layout v)
 
+-- the head of a record: the number and the version
+abbrev pub headOf : Version → List ℕ
+headOf v = fieldBytes pair (following v) ++ (versionNumber v ∷ [])
+
 -- the record of a state in a version
 abbrev pub recordIn : Version → State → List ℕ
-recordIn v s = fieldBytes pair (following v) ++ (versionNumber v ∷ bytesOf (layout v) s)
+recordIn v s = headOf v ++ bytesOf (layout v) s
 
--- the length of a lent record
-abbrev pub recordLength : ℕ
-recordLength = 2150
+-- how many bytes a record has; `LengthOfRecord` ties it to the layout
+abbrev pub recordLength : Version → ℕ
+recordLength v = 2150 + added v
+
+-- the version that has records of a length: an old record is told by its length
+abbrev pub versionOf : ℕ → Version
+versionOf n = cond (eqb n (recordLength Version1)) Version1 Version2
 
 -- the record of a state
 unfoldable pub recordOf : State → List ℕ
@@ -55,10 +65,6 @@ sound v b = eqb (firstBad v b) (length b)
 unfoldable pub stateAs : Version → List ℕ → State
 stateAs v b = stateAt (layout v) (fromLayout v) b partsPlace
 
--- the state in a record
-abbrev pub stateIn : List ℕ → State
-stateIn b = stateAs current b
-
 -- the refusal of lent bytes as a record: 13, and the reset state
 abbrev pub notRecord : Answer
 notRecord = refused NotRecord resetState
@@ -67,20 +73,28 @@ notRecord = refused NotRecord resetState
 abbrev pub accepted : Version → List ℕ → Bool
 accepted v b = counted v b && (versioned v b && sound v b)
 
--- record reading: the number, the version, the fields; in the base each fault is 13
+-- record reading: the number, the version, the fields; each fault is 13
 abbrev pub readFields : Version → List ℕ → Answer
 readFields v b = cond (sound v b) (done (stateAs v b)) notRecord
 
 abbrev pub readAs : Version → List ℕ → Answer
 readAs v b = cond (counted v b) (cond (versioned v b) (readFields v b) notRecord) notRecord
 
+-- the reader of version 2, which takes both
 unfoldable pub readRecord : List ℕ → Answer
-readRecord b = readAs current b
+readRecord b = readAs (versionOf (length b)) b
+
+-- the reader of version 1, and that of the version that is written alone
+abbrev pub readOld : List ℕ → Answer
+readOld b = readAs Version1 b
+
+abbrev pub readCurrent : List ℕ → Answer
+readCurrent b = readAs current b
 
 -- record writing: 3, 4
 abbrev pub writeReply : List ℕ → State → Reply
-writeReply target s = cond (eqb (length target) recordLength) (lawfulReply s) BufferLength
+writeReply target s = cond (eqb (length target) (recordLength current)) (lawfulReply s) BufferLength
 
 -- and the target afterwards
 abbrev pub writtenIn : List ℕ → State → List ℕ
-writtenIn target s = cond (eqb (length target) recordLength) (cond (lawfulState s) (recordOf s) target) target
+writtenIn target s = cond (eqb (length target) (recordLength current)) (cond (lawfulState s) (recordOf s) target) target

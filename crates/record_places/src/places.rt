@@ -1,11 +1,12 @@
-// The places of a record's parts, counted from the front, by the names of `record_layout`'s Places.
+// The places of a record's parts, counted from the front, by the names of `record_layout`'s Places. Those after $33, and the
+// length, are of version 1: `in_version` gives those of another.
 
-// The number of bytes following, two bytes, and what it is.
+// The number of bytes following, two bytes.
 pub const COUNT: usize = 0;
 
-pub const FOLLOWING: usize = 2148;
-
 pub const VERSION: usize = 2;
+// The first part.
+pub const PARTS: usize = 3;
 
 // $14
 pub const ULA_TRANSPARENT: usize = 3;
@@ -40,9 +41,9 @@ pub const MAP: usize = 17;
 // $6F
 pub const DEFINITIONS: usize = 18;
 // $32
-pub const ULA_X: usize = 19;
+pub const LORES_X: usize = 19;
 // $33
-pub const ULA_Y: usize = 20;
+pub const LORES_Y: usize = 20;
 // X1, X2, Y1, Y2 of $1A
 pub const ULA_CLIP: usize = 21;
 // X1, X2, Y1, Y2 of $1B
@@ -77,4 +78,4 @@ pub const TILE_FIRST: usize = 1126;
 pub const TILE_SECOND: usize = 1638;
 
 // The bytes in all.
-pub const RECORD_LENGTH: usize = 2150;
+pub const LENGTH: usize = 2150;

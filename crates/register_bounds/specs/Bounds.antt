@@ -1,12 +1,12 @@
--- Rules 3.6, 3.16, 3.17, 3.19 to 3.21, 3.23, 3.24, 3.27 and 3.31: the bound of each register, once. A lawful state, a write and a stored
+-- Rules 3.6, 3.16, 3.17, 3.19 to 3.21, 3.23, 3.24, 3.27, 3.31 and 3.32: the bound of each register, once. A lawful state, a write and a stored
 -- record all go by these.
 use Prim.Native.Nat.{ℕ, _/_, _%_}
 use mathlib.Core.Bool.{Bool, _||_}
 use lib.Dec.{leb, ltb, eqb}
 
--- $33 at most 191
-abbrev pub ulaYFits : ℕ → Bool
-ulaYFits v = leb v 191
+-- $27 and $33 at most 191
+abbrev pub offsetYFits : ℕ → Bool
+offsetYFits v = leb v 191
 
 -- $42: one of eight ink masks
 abbrev pub isMask : ℕ → Bool

@@ -1,11 +1,11 @@
 // The bounds of the registers, as tests of one byte: a lawful state, a write and a stored record all go by these. The tests of a
 // group of registers and of a state are in `state`.
 ghost use mathlib.Core.Path.{_≡_};
-ghost use Rattle.register_bounds.specs.Bounds.{ulaYFits, ulaControlFits, isMask, choiceOf, isChoice, halfFits, tileTransparentFits, tileControlFits, xHighFits, baseFits, turnFits, borderFits, selectFits};
+ghost use Rattle.register_bounds.specs.Bounds.{offsetYFits, ulaControlFits, isMask, choiceOf, isChoice, halfFits, tileTransparentFits, tileControlFits, xHighFits, baseFits, turnFits, borderFits, selectFits};
 
-// $33
-pub fn ula_y_fits(v: u8) -> bool
-    ensures { λ r. ⌜ r ≡ ulaYFits v ⌝ }
+// $27 and $33
+pub fn offset_y_fits(v: u8) -> bool
+    ensures { λ r. ⌜ r ≡ offsetYFits v ⌝ }
 {
     v <= 191
 }

@@ -81,8 +81,8 @@ read-four-not a b e h d = h (sym (ap (λ (x : Reading). x .reply) e) ∙ d)
 
 register-reads-give : (s : State) → Each (λ r. ReadNotFour (r .reading s)) registerReads
 register-reads-give s =
-    gives ▷ gives ▷ gives ▷ gives ▷ gives ▷ gives ▷ gives ▷ gives ▷ gives ▷ gives ▷ gives ▷ gives
-    ▷ gives ▷ gives ▷ gives ▷ gives ▷ gives ▷ gives ▷ gives ▷ gives ▷ gives ▷ gives ▷ gives ▷ none
+    gives ▷ gives ▷ gives ▷ gives ▷ gives ▷ gives ▷ gives ▷ gives ▷ gives ▷ gives ▷ gives ▷ gives ▷ gives
+    ▷ gives ▷ gives ▷ gives ▷ gives ▷ gives ▷ gives ▷ gives ▷ gives ▷ gives ▷ gives ▷ gives ▷ gives ▷ none
 
 port-reads-give : (s : State) → Each (λ r. ReadNotFour (r .reading s)) portReads
 port-reads-give s =
@@ -120,6 +120,8 @@ unfolding ReadsBack
 readsBack s v b z h =
     let row = takes s v b z h in
     row _ v _ _ refl refl
+    ▷ row _ v _ _ refl refl
+    ▷ row _ v _ _ refl refl
     ▷ row _ v _ _ refl refl
     ▷ row _ v _ _ refl refl
     ▷ row _ v _ _ refl refl

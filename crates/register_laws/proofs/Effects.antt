@@ -8,19 +8,20 @@ use lib.Dec.{leb, eqb}
 use borrow.Author.Tests.{le-leb, lt-ltb, leb-true}
 use Rattle.lists.proofs.Cond.{either, both, left-true, right-true}
 use Rattle.state.specs.declared.State.{State}
+use Rattle.state.specs.declared.Ula.{Ula}
 use Rattle.state.specs.declared.Tiles.{Tiles}
 use Rattle.state.specs.declared.Palette.{Palette}
 use Rattle.state.specs.declared.Turns.{Turns}
 use Rattle.state.specs.declared.Ports.{Ports}
-use Rattle.register_bounds.specs.Bounds.{ulaYFits, ulaControlFits, isMask, isChoice, halfFits, tileTransparentFits, tileControlFits, xHighFits, baseFits, turnFits, borderFits, selectFits}
-use Rattle.state.specs.Lawful.{lawfulTiles, lawfulPalette, lawfulTurns, lawfulPorts}
+use Rattle.register_bounds.specs.Bounds.{offsetYFits, ulaControlFits, isMask, isChoice, halfFits, tileTransparentFits, tileControlFits, xHighFits, baseFits, turnFits, borderFits, selectFits}
+use Rattle.state.specs.Lawful.{lawfulUla, lawfulTiles, lawfulPalette, lawfulTurns, lawfulPorts}
 use Rattle.state.specs.Typed.{PaletteTyped, TurnsTyped}
 use Rattle.state.specs.Answer.{done}
-use Rattle.state.specs.Groups.{ulaWithTransparent, ulaWithLayers, ulaWithPeripheral, ulaWithFallback, ulaWithControl, ulaWithX, ulaWithY, tilesWithTransparent, tilesWithControl, tilesWithAttribute, tilesWithXHigh, tilesWithXLow, tilesWithY, tilesWithMap, tilesWithDefinitions, paletteWithControl, paletteWithIndex, paletteWithMask, paletteWithHalf, paletteWithoutHalf, turnsWithUla, turnsWithTiles, portsWithBorder, portsWithTimex, portsWithSelect, portsWithPlus}
+use Rattle.state.specs.Groups.{ulaWithTransparent, ulaWithLayers, ulaWithPeripheral, ulaWithFallback, ulaWithControl, ulaWithX, ulaWithY, ulaWithLoresX, ulaWithLoresY, tilesWithTransparent, tilesWithControl, tilesWithAttribute, tilesWithXHigh, tilesWithXLow, tilesWithY, tilesWithMap, tilesWithDefinitions, paletteWithControl, paletteWithIndex, paletteWithMask, paletteWithHalf, paletteWithoutHalf, turnsWithUla, turnsWithTiles, portsWithBorder, portsWithTimex, portsWithSelect, portsWithPlus}
 use Rattle.state.specs.With.{withTurns, withUlaClip, withTileClip, withPlus}
 use Rattle.state.proofs.Typed as typed
 use Rattle.colour.specs.Bytes.{widened}
-use Rattle.register_stored.specs.Stored.{peripheralWritten, transparentWritten, layersWritten, tileXHighWritten, tileXLowWritten, tileYWritten, ulaXWritten, ulaYWritten, fallbackWritten, tileTransparentWritten, ulaControlWritten, tileControlWritten, tileAttributeWritten, mapWritten, definitionsWritten}
+use Rattle.register_stored.specs.Stored.{peripheralWritten, transparentWritten, layersWritten, tileXHighWritten, tileXLowWritten, tileYWritten, ulaXWritten, ulaYWritten, loresXWritten, loresYWritten, fallbackWritten, tileTransparentWritten, ulaControlWritten, tileControlWritten, tileAttributeWritten, mapWritten, definitionsWritten}
 use Rattle.register_clips.specs.Clips.{coordinate, nextTurn, ulaClipWritten, tileClipWritten, restarted, turnsWritten}
 use Rattle.register_colours.specs.Colours.{paletteAt, paletteChoice, nextIndex, colourStored, colourPut}
 use Rattle.register_palettes.specs.Palettes.{indexWritten, eightWritten, maskWritten, controlWritten, nineFirst, nineSecond, nineWritten}
@@ -30,7 +31,15 @@ use Rattle.register_laws.specs.Claims.{Each, none, _▷_}
 use Rattle.register_laws.proofs.Parts.{Parts, ula-group, tiles-group, palette-group, turns-group, ports-group, set-colours, palette-lawful, palette-typed, with-palette-at}
 use Rattle.register_laws.proofs.Rows.{Sound, always, judged, stored, stored-if, chosen}
 
--- ---- the ULA's registers
+-- ---- three bounds, each by itself and all together
+
+three-parts : (a b c : Bool) → (a && b && c) ≡ true → (a ≡ true) × (b ≡ true) × (c ≡ true)
+three-parts a b c h = let g = left-true (a && b) c h in (left-true a b g, right-true a b g, right-true (a && b) c h)
+
+all-three : (a b c : Bool) → a ≡ true → b ≡ true → c ≡ true → (a && b && c) ≡ true
+all-three a b c p q r = rw (p, q, r)
+
+-- ---- the registers of the ULA and LoRes
 
 pub peripheral : Sound peripheralWritten
 peripheral = stored ula-group ulaWithPeripheral (λ u v h. h) typed.ula-peripheral
@@ -47,13 +56,22 @@ ula-x = stored ula-group ulaWithX (λ u v h. h) typed.ula-x
 pub fallback : Sound fallbackWritten
 fallback = stored ula-group ulaWithFallback (λ u v h. h) typed.ula-fallback
 
+pub lores-x : Sound loresXWritten
+lores-x = stored ula-group ulaWithLoresX (λ u v h. h) typed.ula-loresx
+
+ula-parts : (u : Ula) → lawfulUla u ≡ true
+    → (offsetYFits (u .y) ≡ true) × (offsetYFits (u .loresy) ≡ true) × (ulaControlFits (u .control) ≡ true)
+ula-parts u h = three-parts (offsetYFits (u .y)) (offsetYFits (u .loresy)) (ulaControlFits (u .control)) h
+
 pub ula-y : Sound ulaYWritten
-ula-y = stored-if ula-group ulaYFits ulaWithY (λ u v e h. both (ulaYFits v) _ e (right-true (ulaYFits (u .y)) (ulaControlFits (u .control)) h)) typed.ula-y
+ula-y = stored-if ula-group offsetYFits ulaWithY (λ u v e h. let q = ula-parts u h in all-three _ _ _ e (q .1) (q .2)) typed.ula-y
+
+pub lores-y : Sound loresYWritten
+lores-y = stored-if ula-group offsetYFits ulaWithLoresY (λ u v e h. let q = ula-parts u h in all-three _ _ _ (q .0) e (q .2)) typed.ula-loresy
 
 pub ula-control : Sound ulaControlWritten
 ula-control =
-    stored-if ula-group ulaControlFits ulaWithControl
-    (λ u v e h. both (ulaYFits (u .y)) _ (left-true (ulaYFits (u .y)) (ulaControlFits (u .control)) h) e) typed.ula-control
+    stored-if ula-group ulaControlFits ulaWithControl (λ u v e h. let q = ula-parts u h in all-three _ _ _ (q .0) (q .1) e) typed.ula-control
 
 -- ---- the tilemap's registers
 
@@ -181,21 +199,18 @@ turns =
 
 -- ---- the palette registers
 
-all-three : (a b c : Bool) → a ≡ true → b ≡ true → c ≡ true → (a && b && c) ≡ true
-all-three a b c p q r = rw (p, q, r)
-
 module _ (p : Palette) (h : lawfulPalette p ≡ true) where
-  mask-choice : (isMask (p .mask) && isChoice (p .control)) ≡ true
-  mask-choice = left-true (isMask (p .mask) && isChoice (p .control)) (halfFits (p .held) (p .half)) h
+  palette-parts : (isMask (p .mask) ≡ true) × (isChoice (p .control) ≡ true) × (halfFits (p .held) (p .half) ≡ true)
+  palette-parts = three-parts (isMask (p .mask)) (isChoice (p .control)) (halfFits (p .held) (p .half)) h
 
   mask-of : isMask (p .mask) ≡ true
-  mask-of = left-true (isMask (p .mask)) (isChoice (p .control)) mask-choice
+  mask-of = palette-parts .0
 
   choice-of : isChoice (p .control) ≡ true
-  choice-of = right-true (isMask (p .mask)) (isChoice (p .control)) mask-choice
+  choice-of = palette-parts .1
 
   half-of : halfFits (p .held) (p .half) ≡ true
-  half-of = right-true (isMask (p .mask) && isChoice (p .control)) (halfFits (p .held) (p .half)) h
+  half-of = palette-parts .2
 
 -- the index moved and no half held
 moved-typed : (p : Palette) (v : ℕ) → v < 256 → PaletteTyped p → PaletteTyped (paletteWithoutHalf (paletteWithIndex p v))
@@ -281,11 +296,13 @@ registers-sound =
     ▷ ula-clip
     ▷ tile-clip
     ▷ turns
+    ▷ ula-x
+    ▷ ula-y
     ▷ tile-x-high
     ▷ tile-x-low
     ▷ tile-y
-    ▷ ula-x
-    ▷ ula-y
+    ▷ lores-x
+    ▷ lores-y
     ▷ index
     ▷ eight
     ▷ mask

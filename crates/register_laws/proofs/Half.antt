@@ -10,7 +10,7 @@ use Rattle.state.specs.declared.State.{State}
 use Rattle.state.specs.declared.Palette.{Palette}
 use Rattle.state.specs.declared.Answer.{Answer}
 use Rattle.state.specs.Answer.{done, refused}
-use Rattle.register_bounds.specs.Bounds.{isMask, ulaYFits, tileTransparentFits, ulaControlFits, tileControlFits, xHighFits, selectFits}
+use Rattle.register_bounds.specs.Bounds.{isMask, offsetYFits, tileTransparentFits, ulaControlFits, tileControlFits, xHighFits, selectFits}
 use Rattle.state.specs.Lawful.{lawfulState}
 use Rattle.state.specs.With.{withPalette}
 use Rattle.register_answers.specs.Answers.{ifFits, writeLawful}
@@ -54,11 +54,13 @@ module _ (s : State) where
       ▷ (λ e. same)
       ▷ (λ e. same)
       ▷ (λ e. judged-same (leb v 15) _ same)
+      ▷ (λ e. same)
+      ▷ (λ e. judged-same (offsetYFits v) _ same)
       ▷ (λ e. judged-same (xHighFits v) _ same)
       ▷ (λ e. same)
       ▷ (λ e. same)
       ▷ (λ e. same)
-      ▷ (λ e. judged-same (ulaYFits v) _ same)
+      ▷ (λ e. judged-same (offsetYFits v) _ same)
       ▷ (λ e. absurd (x0 e))
       ▷ (λ e. absurd (x1 e))
       ▷ (λ e. judged-same (isMask v) _ same)

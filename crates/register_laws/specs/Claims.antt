@@ -6,7 +6,7 @@ use mathlib.Core.List.{List, [], _∷_}
 use mathlib.Core.Bool.{Bool, true, false, cond}
 use lib.ListN.{getD, set}
 use Rattle.reply.specs.declared.Reply.the-variants.{Done, NotLawful, NoRegister, OutOfBounds}
-use Rattle.register_bounds.specs.Bounds.{ulaYFits, isMask, isChoice, tileTransparentFits, ulaControlFits, tileControlFits, xHighFits}
+use Rattle.register_bounds.specs.Bounds.{offsetYFits, isMask, isChoice, tileTransparentFits, ulaControlFits, tileControlFits, xHighFits}
 use Rattle.state.specs.declared.State.{State}
 use Rattle.state.specs.declared.Answer.{Answer}
 use Rattle.state.specs.Answer.{done, refused}
@@ -86,11 +86,13 @@ storedRegisters =
     stores 0x08 anyByte whole ∷
     stores 0x14 anyByte whole ∷
     stores 0x15 anyByte whole ∷
+    stores 0x26 anyByte whole ∷
+    stores 0x27 offsetYFits whole ∷
     stores 0x2F xHighFits whole ∷
     stores 0x30 anyByte whole ∷
     stores 0x31 anyByte whole ∷
     stores 0x32 anyByte whole ∷
-    stores 0x33 ulaYFits whole ∷
+    stores 0x33 offsetYFits whole ∷
     stores 0x40 anyByte whole ∷
     stores 0x42 isMask whole ∷
     stores 0x43 isChoice whole ∷
@@ -251,7 +253,7 @@ WriteOnly =
 
 abbrev pub registerNumbers : List ℕ
 registerNumbers =
-    0x08 ∷ 0x14 ∷ 0x15 ∷ 0x1A ∷ 0x1B ∷ 0x1C ∷ 0x2F ∷ 0x30 ∷ 0x31 ∷ 0x32 ∷ 0x33 ∷ 0x40 ∷ 0x41 ∷ 0x42 ∷ 0x43 ∷ 0x44 ∷ 0x4A ∷ 0x4C ∷ 0x68 ∷ 0x6B ∷ 0x6C ∷ 0x6E ∷ 0x6F ∷ []
+    0x08 ∷ 0x14 ∷ 0x15 ∷ 0x1A ∷ 0x1B ∷ 0x1C ∷ 0x26 ∷ 0x27 ∷ 0x2F ∷ 0x30 ∷ 0x31 ∷ 0x32 ∷ 0x33 ∷ 0x40 ∷ 0x41 ∷ 0x42 ∷ 0x43 ∷ 0x44 ∷ 0x4A ∷ 0x4C ∷ 0x68 ∷ 0x6B ∷ 0x6C ∷ 0x6E ∷ 0x6F ∷ []
 
 abbrev pub portNumbers : List ℕ
 portNumbers = 0x00FE ∷ 0x00FF ∷ 0xBF3B ∷ 0xFF3B ∷ []

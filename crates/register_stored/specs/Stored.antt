@@ -1,10 +1,10 @@
--- Rules 3.4, 3.18 and 3.22 to 3.24: what a write does to each register that is stored, in the order of their numbers.
+-- Rules 3.4, 3.6, 3.18, 3.22 to 3.24 and 3.32: what a write does to each register that is stored, in the order of their numbers.
 use Prim.Native.Nat.{ℕ, _%_}
 use Rattle.state.specs.declared.State.{State}
 use Rattle.state.specs.declared.Answer.{Answer}
 use Rattle.state.specs.Answer.{done}
-use Rattle.register_bounds.specs.Bounds.{ulaYFits, tileTransparentFits, ulaControlFits, tileControlFits, xHighFits}
-use Rattle.state.specs.Groups.{ulaWithTransparent, ulaWithLayers, ulaWithPeripheral, ulaWithFallback, ulaWithControl, ulaWithX, ulaWithY, tilesWithTransparent, tilesWithControl, tilesWithAttribute, tilesWithXHigh, tilesWithXLow, tilesWithY, tilesWithMap, tilesWithDefinitions}
+use Rattle.register_bounds.specs.Bounds.{offsetYFits, tileTransparentFits, ulaControlFits, tileControlFits, xHighFits}
+use Rattle.state.specs.Groups.{ulaWithTransparent, ulaWithLayers, ulaWithPeripheral, ulaWithFallback, ulaWithControl, ulaWithX, ulaWithY, ulaWithLoresX, ulaWithLoresY, tilesWithTransparent, tilesWithControl, tilesWithAttribute, tilesWithXHigh, tilesWithXLow, tilesWithY, tilesWithMap, tilesWithDefinitions}
 use Rattle.state.specs.With.{withUla, withTiles}
 use Rattle.register_answers.specs.Answers.{ifFits}
 
@@ -20,6 +20,14 @@ transparentWritten s v = done (withUla s (ulaWithTransparent (s .ula) v))
 abbrev pub layersWritten : State → ℕ → Answer
 layersWritten s v = done (withUla s (ulaWithLayers (s .ula) v))
 
+-- $26: ULA X offset
+abbrev pub ulaXWritten : State → ℕ → Answer
+ulaXWritten s v = done (withUla s (ulaWithX (s .ula) v))
+
+-- $27: ULA Y offset, at most 191
+abbrev pub ulaYWritten : State → ℕ → Answer
+ulaYWritten s v = ifFits (offsetYFits v) (withUla s (ulaWithY (s .ula) v)) s
+
 -- $2F: tilemap X, at most 3
 abbrev pub tileXHighWritten : State → ℕ → Answer
 tileXHighWritten s v = ifFits (xHighFits v) (withTiles s (tilesWithXHigh (s .tiles) v)) s
@@ -32,13 +40,13 @@ tileXLowWritten s v = done (withTiles s (tilesWithXLow (s .tiles) v))
 abbrev pub tileYWritten : State → ℕ → Answer
 tileYWritten s v = done (withTiles s (tilesWithY (s .tiles) v))
 
--- $32: ULA and LoRes X offset
-abbrev pub ulaXWritten : State → ℕ → Answer
-ulaXWritten s v = done (withUla s (ulaWithX (s .ula) v))
+-- $32: LoRes X offset
+abbrev pub loresXWritten : State → ℕ → Answer
+loresXWritten s v = done (withUla s (ulaWithLoresX (s .ula) v))
 
--- $33: ULA and LoRes Y offset, at most 191
-abbrev pub ulaYWritten : State → ℕ → Answer
-ulaYWritten s v = ifFits (ulaYFits v) (withUla s (ulaWithY (s .ula) v)) s
+-- $33: LoRes Y offset, at most 191
+abbrev pub loresYWritten : State → ℕ → Answer
+loresYWritten s v = ifFits (offsetYFits v) (withUla s (ulaWithLoresY (s .ula) v)) s
 
 -- $4A: fallback
 abbrev pub fallbackWritten : State → ℕ → Answer

@@ -12,6 +12,8 @@ pub use tilemap::write_tile_x_low;
 pub use tilemap::write_tile_y;
 pub use ula::write_fallback;
 pub use ula::write_layers;
+pub use ula::write_lores_x;
+pub use ula::write_lores_y;
 pub use ula::write_peripheral;
 pub use ula::write_transparent;
 pub use ula::write_ula_control;

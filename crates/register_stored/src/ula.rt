@@ -1,10 +1,10 @@
-// Writes to the ULA's registers.
+// Writes to the registers of the ULA and LoRes.
 ghost use mathlib.Core.Path.{_≡_};
-ghost use Rattle.register_stored.specs.Stored.{peripheralWritten, transparentWritten, layersWritten, ulaXWritten, ulaYWritten, fallbackWritten, ulaControlWritten};
+ghost use Rattle.register_stored.specs.Stored.{peripheralWritten, transparentWritten, layersWritten, ulaXWritten, ulaYWritten, loresXWritten, loresYWritten, fallbackWritten, ulaControlWritten};
 use register_answers::accept;
 use register_answers::if_fits;
+use register_bounds::offset_y_fits;
 use register_bounds::ula_control_fits;
-use register_bounds::ula_y_fits;
 use state::Answer;
 use state::State;
 
@@ -35,7 +35,7 @@ pub fn write_layers(s: State, value: u8) -> Answer
     accept(t)
 }
 
-// $32
+// $26
 pub fn write_ula_x(s: State, value: u8) -> Answer
     ensures { λ r. ⌜ r ≡ ulaXWritten s value ⌝ }
 {
@@ -44,13 +44,32 @@ pub fn write_ula_x(s: State, value: u8) -> Answer
     accept(t)
 }
 
-// $33
+// $27
 pub fn write_ula_y(s: State, value: u8) -> Answer
     ensures { λ r. ⌜ r ≡ ulaYWritten s value ⌝ }
 {
-    let ok = ula_y_fits(value);
+    let ok = offset_y_fits(value);
     let mut t = s;
     t.ula.y = value;
+    if_fits(ok, t, s)
+}
+
+// $32
+pub fn write_lores_x(s: State, value: u8) -> Answer
+    ensures { λ r. ⌜ r ≡ loresXWritten s value ⌝ }
+{
+    let mut t = s;
+    t.ula.loresx = value;
+    accept(t)
+}
+
+// $33
+pub fn write_lores_y(s: State, value: u8) -> Answer
+    ensures { λ r. ⌜ r ≡ loresYWritten s value ⌝ }
+{
+    let ok = offset_y_fits(value);
+    let mut t = s;
+    t.ula.loresy = value;
     if_fits(ok, t, s)
 }
 

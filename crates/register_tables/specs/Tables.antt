@@ -3,7 +3,7 @@
 use mathlib.Core.List.{List, [], _∷_}
 use Rattle.register_answers.specs.Answers.{given}
 use Rattle.register_answers.specs.Rows.{WriteRow, writes, ReadRow, reads}
-use Rattle.register_stored.specs.Stored.{peripheralWritten, transparentWritten, layersWritten, tileXHighWritten, tileXLowWritten, tileYWritten, ulaXWritten, ulaYWritten, fallbackWritten, tileTransparentWritten, ulaControlWritten, tileControlWritten, tileAttributeWritten, mapWritten, definitionsWritten}
+use Rattle.register_stored.specs.Stored.{peripheralWritten, transparentWritten, layersWritten, tileXHighWritten, tileXLowWritten, tileYWritten, ulaXWritten, ulaYWritten, loresXWritten, loresYWritten, fallbackWritten, tileTransparentWritten, ulaControlWritten, tileControlWritten, tileAttributeWritten, mapWritten, definitionsWritten}
 use Rattle.register_clips.specs.Clips.{ulaClipWritten, tileClipWritten, turnsWritten, clipNext, turnsRead}
 use Rattle.register_palettes.specs.Palettes.{indexWritten, eightWritten, maskWritten, controlWritten, nineWritten, eightRead, nineRead}
 
@@ -16,11 +16,13 @@ registerWrites =
     writes 0x1A ulaClipWritten ∷
     writes 0x1B tileClipWritten ∷
     writes 0x1C turnsWritten ∷
+    writes 0x26 ulaXWritten ∷
+    writes 0x27 ulaYWritten ∷
     writes 0x2F tileXHighWritten ∷
     writes 0x30 tileXLowWritten ∷
     writes 0x31 tileYWritten ∷
-    writes 0x32 ulaXWritten ∷
-    writes 0x33 ulaYWritten ∷
+    writes 0x32 loresXWritten ∷
+    writes 0x33 loresYWritten ∷
     writes 0x40 indexWritten ∷
     writes 0x41 eightWritten ∷
     writes 0x42 maskWritten ∷
@@ -44,11 +46,13 @@ registerReads =
     reads 0x1A (λ s. given (clipNext (s .ulaclip) (s .turns .ula))) ∷
     reads 0x1B (λ s. given (clipNext (s .tileclip) (s .turns .tiles))) ∷
     reads 0x1C (λ s. given (turnsRead s)) ∷
+    reads 0x26 (λ s. given (s .ula .x)) ∷
+    reads 0x27 (λ s. given (s .ula .y)) ∷
     reads 0x2F (λ s. given (s .tiles .xhigh)) ∷
     reads 0x30 (λ s. given (s .tiles .xlow)) ∷
     reads 0x31 (λ s. given (s .tiles .y)) ∷
-    reads 0x32 (λ s. given (s .ula .x)) ∷
-    reads 0x33 (λ s. given (s .ula .y)) ∷
+    reads 0x32 (λ s. given (s .ula .loresx)) ∷
+    reads 0x33 (λ s. given (s .ula .loresy)) ∷
     reads 0x40 (λ s. given (s .palette .index)) ∷
     reads 0x41 (λ s. given (eightRead s)) ∷
     reads 0x42 (λ s. given (s .palette .mask)) ∷

@@ -5,7 +5,7 @@ use mathlib.Core.List.{List, [], _∷_}
 use Rattle.reply.specs.Reply.{replyNumber}
 use Rattle.reply.specs.Claims.{NumberTells}
 use Rattle.reply.specs.declared.Reply.{Reply}
-use Rattle.reply.specs.declared.Reply.the-variants.{Done, NoLine, BankLength, BufferLength, NotLawful, NoMode, LoresWithTiles, NextWithPlus, FarOffset, NoRegister, OutOfBounds, TooManyTiles, PackingBounds, NotRecord, NoForm}
+use Rattle.reply.specs.declared.Reply.the-variants.{Done, NoLine, BankLength, BufferLength, NotLawful, NoMode, LoresWithTiles, NextWithPlus, FarOffset, NoRegister, OutOfBounds, TooManyTiles, PackingBounds, NotRecord, NoForm, PairsDiffer}
 
 -- the member of a list at a number
 at : List Reply → ℕ → Reply
@@ -30,6 +30,7 @@ replies =
     ∷ PackingBounds
     ∷ NotRecord
     ∷ NoForm
+    ∷ PairsDiffer
     ∷ []
 
 found : (r : Reply) → at replies (replyNumber r) ≡ r
@@ -49,6 +50,7 @@ found TooManyTiles = refl
 found PackingBounds = refl
 found NotRecord = refl
 found NoForm = refl
+found PairsDiffer = refl
 
 pub numberTells : NumberTells
 numberTells a b e = sym (found a) ∙ ap (at replies) e ∙ found b

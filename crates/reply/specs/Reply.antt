@@ -3,7 +3,7 @@ use Prim.Native.Nat.{ℕ}
 use mathlib.Core.Bool.{Bool}
 use lib.Dec.{eqb}
 use Rattle.reply.specs.declared.Reply.{Reply}
-use Rattle.reply.specs.declared.Reply.the-variants.{Done, NoLine, BankLength, BufferLength, NotLawful, NoMode, LoresWithTiles, NextWithPlus, FarOffset, NoRegister, OutOfBounds, TooManyTiles, PackingBounds, NotRecord, NoForm}
+use Rattle.reply.specs.declared.Reply.the-variants.{Done, NoLine, BankLength, BufferLength, NotLawful, NoMode, LoresWithTiles, NextWithPlus, FarOffset, NoRegister, OutOfBounds, TooManyTiles, PackingBounds, NotRecord, NoForm, PairsDiffer}
 
 -- the number of each row of the table
 abbrev pub replyNumber : Reply → ℕ
@@ -37,6 +37,8 @@ replyNumber PackingBounds = 12
 replyNumber NotRecord = 13
 -- a file that is no screen, or a screen that has no form as a file
 replyNumber NoForm = 14
+-- a record that cannot be moved back: $26 is not $32, or $27 is not $33
+replyNumber PairsDiffer = 15
 
 -- a reply that refuses nothing
 abbrev pub isDone : Reply → Bool

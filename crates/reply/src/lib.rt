@@ -3,8 +3,10 @@ ghost use mathlib.Core.Path.{_≡_};
 ghost use Rattle.reply.specs.Reply.{replyNumber};
 
 mod first;
+mod lengths;
 
 pub use first::first_of;
+pub use lengths::length_reply;
 
 pub enum Reply {
     Done,
@@ -22,6 +24,7 @@ pub enum Reply {
     PackingBounds,
     NotRecord,
     NoForm,
+    PairsDiffer,
 }
 
 // The paper's number of a reply.
@@ -44,5 +47,6 @@ pub fn number(r: Reply) -> u8
         Reply::PackingBounds => 12,
         Reply::NotRecord => 13,
         Reply::NoForm => 14,
+        Reply::PairsDiffer => 15,
     }
 }

@@ -61,6 +61,12 @@ fn draw_clips() {
     draw_over_two(b"tile_clip_crossed.rec");
 }
 
+fn draw_two_scrolls() {
+    draw(b"two_scrolls_mode_0.rec");
+    draw(b"two_scrolls_mode_6.rec");
+    draw(b"two_scrolls_lores.rec");
+}
+
 fn main() {
     draw_offsets();
     draw_tiles_and_masks();
@@ -68,4 +74,5 @@ fn main() {
     draw_rest();
     draw_two_banks();
     draw_clips();
+    draw_two_scrolls();
 }

@@ -1,7 +1,9 @@
-// One byte changed at a time: each bound at its edge and one past it; then records that are too short or too long.
-use crate::judged::judge;
+// One byte changed at a time: each bound at its edge and one past it; then records that are too short or too long. Places
+// are worked out by hand, and not taken from the code that is tried.
 use crate::judged::judge_first;
+use host::files::bytes_of;
 use host::files::read_file;
+use host::records::RECORD_FILE;
 use host::report;
 
 fn print_place(name: &[u8], place: usize, byte: u8) {
@@ -20,14 +22,14 @@ fn change(bytes: &mut [u8], place: usize, byte: u8) {
 }
 
 fn damage(name: &[u8], place: usize, byte: u8) {
-    let mut bytes = [0u8; 2150];
-    read_file(name, &mut bytes);
+    let mut bytes = [0u8; RECORD_FILE];
+    let n = bytes_of(name, &mut bytes);
     change(&mut bytes, place, byte);
     print_place(name, place, byte);
-    judge(&bytes);
+    judge_first(&bytes, n);
 }
 
-// A byte of the record in which a half is held, and of the one in which none is.
+// A byte of the old record in which a half is held, of the one in which none is, and of the first in version 2.
 fn first(place: usize, byte: u8) {
     damage(b"own1.rec", place, byte);
 }
@@ -36,11 +38,16 @@ fn second(place: usize, byte: u8) {
     damage(b"own2.rec", place, byte);
 }
 
-// The first n bytes of a record with a byte 0 after it.
-fn cut(n: usize) {
-    let mut bytes = [0u8; 2151];
-    read_file(b"own1.rec", &mut bytes);
-    report::word(b"own1.rec length ");
+fn third(place: usize, byte: u8) {
+    damage(b"own3.rec", place, byte);
+}
+
+// The first n bytes of a record with bytes 0 after it.
+fn cut(name: &[u8], n: usize) {
+    let mut bytes = [0u8; RECORD_FILE];
+    read_file(name, &mut bytes);
+    report::word(name);
+    report::word(b" length ");
     report::number(n as u64);
     report::word(b": ");
     judge_first(&bytes, n);
@@ -105,17 +112,68 @@ fn print_none_held() {
     second(36, 2);
 }
 
+// In version 2, from the head to the first clip.
+fn print_scrolls() {
+    third(1, 100);
+    third(2, 1);
+    third(2, 3);
+    third(20, 191);
+    third(20, 192);
+    third(21, 255);
+    third(22, 191);
+    third(22, 192);
+    third(23, 255);
+}
+
+// What stands two places further back there.
+fn print_moved_ports() {
+    third(31, 3);
+    third(31, 4);
+    third(32, 4);
+    third(33, 0);
+    third(35, 7);
+    third(35, 8);
+    third(37, 128);
+    third(38, 2);
+}
+
+fn print_moved_tables() {
+    third(103, 255);
+    third(104, 1);
+    third(104, 2);
+    third(2150, 1);
+    third(2150, 2);
+    third(2151, 255);
+}
+
+fn print_old_lengths(name: &[u8]) {
+    cut(name, 0);
+    cut(name, 1);
+    cut(name, 2);
+    cut(name, 3);
+    cut(name, 2149);
+    cut(name, 2150);
+    cut(name, 2151);
+    cut(name, 2152);
+}
+
+fn print_lengths(name: &[u8]) {
+    cut(name, 3);
+    cut(name, 2150);
+    cut(name, 2151);
+    cut(name, 2152);
+    cut(name, 2153);
+}
+
 pub fn print_damaged() {
     print_head();
     print_tiles();
     print_ports();
     print_tables();
     print_none_held();
-    cut(0);
-    cut(1);
-    cut(2);
-    cut(3);
-    cut(2149);
-    cut(2150);
-    cut(2151);
+    print_scrolls();
+    print_moved_ports();
+    print_moved_tables();
+    print_old_lengths(b"own1.rec");
+    print_lengths(b"own3.rec");
 }

@@ -1,5 +1,6 @@
 // Each field of a state in the record's order, the first and the last of the 64 registers, and two colours of each palette.
-use host::files::read_file;
+use host::files::bytes_of;
+use host::records::RECORD_FILE;
 use host::report;
 use state::Palette;
 use state::Ports;
@@ -34,8 +35,13 @@ fn print_offsets(t: Tiles) {
 fn print_bases(t: Tiles, u: Ula) {
     report::row(b"$6E", t.map as u64);
     report::row(b"$6F", t.definitions as u64);
-    report::row(b"$32", u.x as u64);
-    report::row(b"$33", u.y as u64);
+    report::row(b"$32", u.loresx as u64);
+    report::row(b"$33", u.loresy as u64);
+}
+
+fn print_scroll(u: Ula) {
+    report::row(b"$26", u.x as u64);
+    report::row(b"$27", u.y as u64);
 }
 
 fn print_clip(label: &[u8], clip: [u8; 4]) {
@@ -77,6 +83,7 @@ fn print_before_clips(s: State) {
     print_controls(s.tiles, s.ula);
     print_offsets(s.tiles);
     print_bases(s.tiles, s.ula);
+    print_scroll(s.ula);
 }
 
 fn print_clips(s: State) {
@@ -116,8 +123,8 @@ fn print_state(s: State) {
 }
 
 pub fn print_fields(name: &[u8]) {
-    let mut bytes = [0u8; 2150];
-    read_file(name, &mut bytes);
-    let a = record::read_record(&bytes);
+    let mut bytes = [0u8; RECORD_FILE];
+    let n = bytes_of(name, &mut bytes);
+    let a = record::read_record(&bytes[..n]);
     print_state(a.state);
 }

@@ -1,8 +1,10 @@
-// Reads records and writes them back, prints the fields of two that were written out by hand, then damages one byte or the
-// length of these and prints the replies.
+// Reads records of both versions and writes them back, prints the fields of three that were written out by hand, then damages one
+// byte or the length of these and prints the replies. own3.rec is own1.rec in version 2 with other values of $26 and $27, and
+// own4.rec is own2.rec moved up.
 mod damaged;
 mod fields;
 mod judged;
+mod readers;
 mod refused;
 
 use judged::print_file;
@@ -26,6 +28,11 @@ fn main() {
     fields::print_fields(b"own1.rec");
     print_file(b"own2.rec");
     fields::print_fields(b"own2.rec");
+    print_file(b"own3.rec");
+    fields::print_fields(b"own3.rec");
+    print_file(b"own4.rec");
+    readers::print_readers(b"own1.rec");
+    readers::print_readers(b"own3.rec");
     damaged::print_damaged();
     refused::print_refused();
 }

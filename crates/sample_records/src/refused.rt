@@ -1,17 +1,9 @@
-// Writing into targets of three lengths, from a lawful state and from one that is not.
+// Writing into targets of four lengths, from a lawful state and from one that is not.
+use host::marks::MARK;
+use host::marks::untouched;
+use host::records::OLD_RECORD;
+use host::records::RECORD;
 use host::report;
-
-// Whether every byte is still 85.
-fn untouched(target: &[u8]) -> bool {
-    let mut i = 0;
-    while i < target.len() {
-        if target[i] != 85 {
-            return false;
-        }
-        i += 1;
-    }
-    true
-}
 
 fn write(border: u8, target: &mut [u8]) {
     let mut s = state::reset();
@@ -31,10 +23,12 @@ fn write(border: u8, target: &mut [u8]) {
 }
 
 pub fn print_refused() {
-    let mut short = [85u8; 2149];
-    let mut fit = [85u8; 2150];
-    let mut other = [85u8; 2150];
-    let mut long = [85u8; 2151];
+    let mut old = [MARK; OLD_RECORD];
+    let mut short = [MARK; RECORD - 1];
+    let mut fit = [MARK; RECORD];
+    let mut other = [MARK; RECORD];
+    let mut long = [MARK; RECORD + 1];
+    write(6, &mut old);
     write(6, &mut short);
     write(6, &mut fit);
     write(6, &mut long);

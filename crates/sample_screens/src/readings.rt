@@ -1,6 +1,8 @@
 // A file read into a state and a bank, and written back.
 use crate::tally::print_kept;
 use crate::tally::print_sum;
+use host::marks::MARK;
+use host::records::RECORD;
 use host::report;
 use state::Palette;
 use state::Ports;
@@ -24,7 +26,7 @@ fn print_bits(u: Ula, p: Palette, o: Ports) {
 // What reading sets, and the sum of the record of all of it.
 fn print_state(s: State) {
     print_bits(s.ula, s.palette, s.ports);
-    let mut bytes = [0u8; 2150];
+    let mut bytes = [0u8; RECORD];
     record::write_record(s, &mut bytes);
     report::word(b", record ");
     print_sum(&bytes);
@@ -74,7 +76,7 @@ fn print_target(target: &[u8], n: usize, file: &[u8]) {
 }
 
 fn print_written(s: State, bank: &[u8], file: &[u8]) {
-    let mut target = [85u8; 12353];
+    let mut target = [MARK; 12353];
     let w = scr::write_scr(s, bank, &mut target);
     let r = w.reply;
     let n = w.length;

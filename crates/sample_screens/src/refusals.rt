@@ -1,6 +1,7 @@
 // What is refused, one at a time and in its order; what is taken stands between.
 ghost use Prim.Native.Nat.{_≤_};
 use crate::tally::print_kept;
+use host::marks::MARK;
 use host::report;
 use state::State;
 
@@ -35,7 +36,7 @@ fn read(label: &[u8], length: usize, port: u8, room: usize, border: u8)
 {
     let mut file = [6u8; 12354];
     file[12288] = port;
-    let mut bank = [85u8; 16385];
+    let mut bank = [MARK; 16385];
     print_read(label, bordered(border), &mut bank[..room], &file[..length]);
 }
 
@@ -97,7 +98,7 @@ fn write(label: &[u8], s: State, from: usize, room: usize)
     requires { ⌜ (from ≤ 16385) × (room ≤ 12354) ⌝ }
 {
     let bank = [6u8; 16385];
-    let mut target = [85u8; 12354];
+    let mut target = [MARK; 12354];
     print_write(label, s, &bank[..from], &mut target[..room]);
 }
 

@@ -1,5 +1,6 @@
 // What is told of lent bytes: their sum, and whether they are all as they were.
 ghost use Prim.Native.Nat.{_<_};
+use host::marks::untouched;
 use host::report;
 use line_sums::line_sum;
 use lists::u16_of;
@@ -29,21 +30,10 @@ pub fn print_sum(bytes: &[u8]) {
     }
 }
 
-fn all_85(bytes: &[u8]) -> bool {
-    let mut i = 0;
-    while i < bytes.len() {
-        if bytes[i] != 85 {
-            return false;
-        }
-        i += 1;
-    }
-    true
-}
-
-// Whether bytes that were all 85 are so still.
+// Whether bytes that were all the mark are so still.
 pub fn print_kept(label: &[u8], bytes: &[u8]) {
     report::word(label);
-    if all_85(bytes) {
+    if untouched(bytes) {
         report::word(b" untouched");
     } else {
         report::word(b" changed");

@@ -2,8 +2,11 @@
 use crate::judged;
 
 fn print_ula_edges() {
-    judged::y(191);
-    judged::y(192);
+    judged::lores_y(191);
+    judged::lores_y(192);
+    judged::ula_x(255);
+    judged::ula_y(191);
+    judged::ula_y(192);
     judged::control(193);
     judged::control(2);
     judged::control(32);

@@ -13,8 +13,13 @@ fn print_ula(u: Ula) {
     report::row(b"$08", u.peripheral as u64);
     report::row(b"$4A", u.fallback as u64);
     report::row(b"$68", u.control as u64);
-    report::row(b"$32", u.x as u64);
-    report::row(b"$33", u.y as u64);
+}
+
+fn print_scrolls(u: Ula) {
+    report::row(b"$32", u.loresx as u64);
+    report::row(b"$33", u.loresy as u64);
+    report::row(b"$26", u.x as u64);
+    report::row(b"$27", u.y as u64);
 }
 
 fn print_tiles(t: Tiles) {
@@ -84,6 +89,7 @@ fn print_tile_palettes(s: State) {
 
 fn print_groups(s: State) {
     print_ula(s.ula);
+    print_scrolls(s.ula);
     print_tiles(s.tiles);
     print_palette(s.palette);
     print_turns(s.turns);

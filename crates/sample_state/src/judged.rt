@@ -4,6 +4,8 @@ use state::State;
 
 // A field of one byte.
 enum Field {
+    LoresY,
+    UlaX,
     UlaY,
     UlaControl,
     Mask,
@@ -31,6 +33,8 @@ enum Table {
 fn with_byte(f: Field, v: u8) -> State {
     let mut s = state::reset();
     match f {
+        Field::LoresY => s.ula.loresy = v,
+        Field::UlaX => s.ula.x = v,
         Field::UlaY => s.ula.y = v,
         Field::UlaControl => s.ula.control = v,
         Field::Mask => s.palette.mask = v,
@@ -79,8 +83,16 @@ fn colour(label: &[u8], t: Table, v: u16) {
     judge(label, v as u64, with_colour(t, v));
 }
 
-pub fn y(v: u8) {
-    byte(b"$33", Field::UlaY, v);
+pub fn lores_y(v: u8) {
+    byte(b"$33", Field::LoresY, v);
+}
+
+pub fn ula_x(v: u8) {
+    byte(b"$26", Field::UlaX, v);
+}
+
+pub fn ula_y(v: u8) {
+    byte(b"$27", Field::UlaY, v);
 }
 
 pub fn control(v: u8) {

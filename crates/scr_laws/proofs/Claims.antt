@@ -10,8 +10,9 @@ use lib.Dec.{eqb}
 use Rattle.lists.specs.Placed.{placed}
 use Rattle.lists.proofs.Cond.{if-true, if-false, either}
 use Rattle.reply.specs.declared.Reply.{Reply}
-use Rattle.reply.specs.declared.Reply.the-variants.{Done, BankLength, BufferLength, NotLawful, NoForm}
+use Rattle.reply.specs.declared.Reply.the-variants.{Done, BankLength, BufferLength, NotLawful, NotRecord, NoForm}
 use Rattle.reply.specs.Reply.{isDone}
+use Rattle.reply.specs.First.{firstOf, firstHit}
 use Rattle.reply.proofs.Done.{is-done, test-met}
 use Rattle.reply.proofs.Order.{hit-each}
 use Rattle.state.specs.declared.State.{State}
@@ -19,9 +20,13 @@ use Rattle.state.specs.declared.Answer.{Answer}
 use Rattle.state.specs.Answer.{done, refused}
 use Rattle.state.specs.Lawful.{lawfulState, lawfulReply}
 use Rattle.state.specs.Typed.{Typed}
-use Rattle.record_layout.specs.Record.{readRecord}
-use Rattle.record_layout.proofs.Claims.{readLawful}
-use Rattle.record_layout.proofs.RoundTrip.{record-read}
+use Rattle.record_layout.specs.declared.Version.the-variants.{Version1}
+use Rattle.record_layout.specs.Version.{current, keptIn}
+use Rattle.record_layout.specs.Record.{readRecord, readCurrent}
+use Rattle.record_layout.specs.Claims.{IsRecord}
+use Rattle.record_layout.proofs.Stages.{accepts, done-accepted}
+use Rattle.record_layout.proofs.RoundTrip.{long, state-lawful}
+use Rattle.record_layout.proofs.Claims.{read-told, current-read, readLawful, record-taken}
 use Rattle.line_replies.specs.Replies.{isBank}
 use Rattle.ula_mode.specs.declared.modes.Mode.{Mode}
 use Rattle.scr_forms.specs.declared.files.Shape.{Shape}
@@ -35,8 +40,10 @@ use Rattle.scr.specs.Reads.{readReply, stateRead, bankFilled, readAnswer}
 use Rattle.scr.specs.Writes.{modeIn, writeReply, fileOf, writtenAnswer, fileAfter}
 use Rattle.scr_replies.proofs.Judged.{Readable, readable, reads, writable, writes}
 use Rattle.lent.specs.Lent.{lentAfter}
-use Rattle.lent_laws.proofs.NotFour.{NotFour, other, record-not-four}
-use Rattle.scr_laws.specs.Claims.{Received, ScreenReadsBack, ScreenWritesBack, ScreenLawful, ScreenAskedAgain, ScreenStored, ScreenNeverNotLawful}
+use Rattle.lent_scr.specs.Screens.{lentReadReply, recordAfter}
+use Rattle.lent_laws.proofs.Claims.{old-long, old-refused, old-read}
+use Rattle.lent_laws.proofs.NotFour.{NotFour, other, read-not-four, record-not-four}
+use Rattle.scr_laws.specs.Claims.{Received, ScreenReadsBack, ScreenWritesBack, ScreenLawful, ScreenAskedAgain, ScreenStored, ScreenNeverNotLawful, ScreenOld}
 use Rattle.scr_laws.proofs.Shown.{read-lawful, read-typed, read-mode}
 use Rattle.scr_laws.proofs.Written.{file-shape, file-port, file-colours, file-taken, apart, front-placed}
 
@@ -191,8 +198,11 @@ screenReadsBack s r bank own buffer t e hr ho =
 pub screenStored : ScreenStored
 unfolding ScreenStored lentAfter
 screenStored b bank file y z e =
-    let r = readLawful b y in
-    record-read (stateRead (readRecord b .state) file) (read-typed (readRecord b .state) file (r .1) z) (read-lawful (readRecord b .state) file ∙ r .0)
+    let r = readLawful current b y in
+    let k = readable (readCurrent b .reply) (length bank) (shapeOf file .mode) e in
+    let own = read-told current b (long current b (done-accepted current b (k .sound))) in
+    current-read (stateRead (readCurrent b .state) file) (read-typed (readCurrent b .state) file (r .1) z) (read-lawful (readCurrent b .state) file ∙ r .0)
+    ∙ ap (λ (a : Answer). done (stateRead (a .state) file)) (sym own)
 
 -- a piece of one test
 piece-not-four : (t : Bool) (r : Reply) → NotFour r → NotFour (cond t Done r)
@@ -212,8 +222,28 @@ unfolding readJudged writeJudged
 screenNeverNotLawful = record {
   reading =
       λ b bank file. hit-each NotFour _ (other Done 0 refl (λ z. omega arith))
-      (bank-not-four (length bank), (record-not-four b, (form-not-four (shapeOf file .mode), tt)));
+      (bank-not-four (length bank), (read-not-four current b, (form-not-four (shapeOf file .mode), tt)));
   writing =
       λ b bank file. hit-each NotFour _ (other Done 0 refl (λ z. omega arith))
       (bank-not-four (length bank), (file-not-four (length file), (record-not-four b, (form-not-four (modeIn (readRecord b .state)), tt))));
+}
+
+-- ---- old records
+
+-- the state in an old record is lawful, as its version keeps it
+old-lawful : (b : List ℕ) (r : IsRecord Version1 b) → lawfulReply (keptIn Version1 (r .0)) ≡ Done
+old-lawful b r =
+    let a = record-taken Version1 b r in
+    let e = sym (old-read b r) ∙ read-told Version1 b (old-long b r) ∙ accepts Version1 b a in
+    ap (λ (x : Answer). lawfulReply (x .state)) e ∙ if-true _ _ _ (state-lawful Version1 b a)
+
+old-unread : (b bank file : List ℕ) → IsRecord Version1 b → length bank ≡ 16384 → lentReadReply b bank file ≡ NotRecord
+unfolding readJudged firstHit firstOf
+old-unread b bank file r l = rw (old-refused b r, l)
+
+pub screenOld : ScreenOld
+unfolding lentAfter
+screenOld = record {
+  reading = λ b bank file r l. let e = old-unread b bank file r l in (e, ap (λ (x : Reply). recordAfter x b file) e);
+  writing = λ b bank file r. rw (old-read b r, old-lawful b r);
 }

@@ -1,4 +1,4 @@
--- Rules 14.4 and 14.10 to 14.12: what holds of reading and writing together, once over the forms and the colours. `Typed` and `Bytes` are
+-- Rules 7.10, 14.4 and 14.10 to 14.12: what holds of reading and writing together, once over the forms and the colours. `Typed` and `Bytes` are
 -- what the types of a call's arguments give.
 use Prim.Native.Nat.{ℕ}
 use mathlib.Core.Path.{_≡_}
@@ -6,12 +6,15 @@ use mathlib.Core.List.{List, _++_}
 use mathlib.Core.Bool.{true, false, cond}
 use lib.ListN.{length, take, drop, getD}
 use Rattle.lists.specs.Bytes.{Bytes}
-use Rattle.reply.specs.declared.Reply.the-variants.{Done, NotLawful}
+use Rattle.reply.specs.declared.Reply.the-variants.{Done, NotLawful, NotRecord}
 use Rattle.state.specs.declared.State.{State}
 use Rattle.state.specs.Answer.{done}
 use Rattle.state.specs.Lawful.{lawfulState}
 use Rattle.state.specs.Typed.{Typed}
+use Rattle.record_layout.specs.declared.Version.the-variants.{Version1}
+use Rattle.record_layout.specs.Version.{keptIn}
 use Rattle.record_layout.specs.Record.{readRecord}
+use Rattle.record_layout.specs.Claims.{IsRecord}
 use Rattle.scr_forms.specs.Forms.{formOf, inParts}
 use Rattle.scr_state.specs.Screen.{withScreen}
 use Rattle.scr_replies.specs.Judged.{fileLength}
@@ -71,3 +74,9 @@ ScreenStored =
 pub record ScreenNeverNotLawful : Type 0 where
   pub reading : (b bank file : List ℕ) → lentReadReply b bank file ≡ NotLawful → ⊥
   pub writing : (b bank file : List ℕ) → lentWriteReply b bank file ≡ NotLawful → ⊥
+
+-- an old record: no screen file is read into it, and one is written from it as from the state in it moved up
+pub record ScreenOld : Type 0 where
+  pub reading : (b bank file : List ℕ) → IsRecord Version1 b → length bank ≡ 16384
+      → (lentReadReply b bank file ≡ NotRecord) × (recordAfter (lentReadReply b bank file) b file ≡ b)
+  pub writing : (b bank file : List ℕ) (r : IsRecord Version1 b) → lentWriteReply b bank file ≡ writeReply (keptIn Version1 (r .0)) bank file

@@ -1,24 +1,11 @@
 // What reading and writing a screen file are refused for. The state's own reply comes from the caller, who has judged it.
 ghost use mathlib.Core.Path.{_≡_};
-ghost use mathlib.Core.Bool.{cond};
-ghost use lib.Dec.{eqb};
-ghost use Rattle.reply.specs.declared.Reply.the-variants.{Done};
 ghost use Rattle.scr_replies.specs.Judged.{bankReply, readJudged, writeJudged};
 use reply::Reply;
 use reply::first_of;
+use reply::length_reply;
 use scr_forms::form_reply;
 use ula_mode::Mode;
-
-// Done where a length is the one wanted.
-fn length_reply(length: usize, wanted: usize, refusal: Reply) -> Reply
-    ensures { λ r. ⌜ r ≡ cond (eqb length wanted) Done refusal ⌝ }
-{
-    if length == wanted {
-        Reply::Done
-    } else {
-        refusal
-    }
-}
 
 fn bank_reply(bank: usize) -> Reply
     ensures { λ r. ⌜ r ≡ bankReply bank ⌝ }

@@ -16,7 +16,7 @@ zeros n = numbers-zeros n 65536 (lit< tt)
 reset-typed : Typed resetState
 unfolding resetState
 reset-typed = record {
-  ula = record { transparent = lit< tt; layers = lit< tt; peripheral = lit< tt; fallback = lit< tt; control = lit< tt; x = lit< tt; y = lit< tt };
+  ula = record { transparent = lit< tt; layers = lit< tt; peripheral = lit< tt; fallback = lit< tt; control = lit< tt; x = lit< tt; y = lit< tt; loresx = lit< tt; loresy = lit< tt };
   tiles = record { transparent = lit< tt; control = lit< tt; attribute = lit< tt; xhigh = lit< tt; xlow = lit< tt; y = lit< tt; map = lit< tt; definitions = lit< tt };
   palette = record { control = lit< tt; index = lit< tt; mask = lit< tt; half = lit< tt };
   turns = record { ula = lit< tt; tiles = lit< tt };

@@ -5,11 +5,12 @@ use mathlib.Core.List.{List, [], _∷_}
 use mathlib.Core.Bool.{Bool, true}
 use Rattle.lists.proofs.Chain.{chain, AllTrue, chain-apart, chain-join}
 use Rattle.state.specs.declared.State.{State}
-use Rattle.register_bounds.specs.Bounds.{ulaYFits, ulaControlFits, isMask, isChoice, halfFits, tileTransparentFits, tileControlFits, xHighFits, baseFits, turnFits, borderFits, selectFits}
+use Rattle.register_bounds.specs.Bounds.{offsetYFits, ulaControlFits, isMask, isChoice, halfFits, tileTransparentFits, tileControlFits, xHighFits, baseFits, turnFits, borderFits, selectFits}
 use Rattle.state.specs.Lawful.{lawfulUla, lawfulPalette, lawfulTiles, lawfulTurns, lawfulPorts, allColours, lawfulState}
 
 pub record Kept (s : State) : Type 0 where
-  pub ulay : ulaYFits (s .ula .y) ≡ true
+  pub ulay : offsetYFits (s .ula .y) ≡ true
+  pub loresy : offsetYFits (s .ula .loresy) ≡ true
   pub ulacontrol : ulaControlFits (s .ula .control) ≡ true
   pub mask : isMask (s .palette .mask) ≡ true
   pub choice : isChoice (s .palette .control) ≡ true
@@ -35,6 +36,9 @@ module _ (s : State) where
   abbrev pub colours : List Bool
   colours = allColours (s .ulafirst) ∷ allColours (s .ulasecond) ∷ allColours (s .tilefirst) ∷ allColours (s .tilesecond) ∷ []
 
+  abbrev inUla : List Bool
+  inUla = offsetYFits (s .ula .loresy) ∷ ulaControlFits (s .ula .control) ∷ []
+
   abbrev inPalette : List Bool
   inPalette = isChoice (s .palette .control) ∷ halfFits (s .palette .held) (s .palette .half) ∷ []
 
@@ -46,7 +50,7 @@ module _ (s : State) where
   lawful-kept e =
       let all : (chain (lawfulUla (s .ula)) groups ≡ true) × AllTrue colours = chain-apart (chain (lawfulUla (s .ula)) groups) colours e in
       let g : (lawfulUla (s .ula) ≡ true) × AllTrue groups = chain-apart (lawfulUla (s .ula)) groups (all .0) in
-      let u = chain-apart (ulaYFits (s .ula .y)) (ulaControlFits (s .ula .control) ∷ []) (g .0) in
+      let u = chain-apart (offsetYFits (s .ula .y)) inUla (g .0) in
       let p = chain-apart (isMask (s .palette .mask)) inPalette (g .1 .0) in
       let t = chain-apart (tileTransparentFits (s .tiles .transparent)) inTiles (g .1 .1 .0) in
       let r = chain-apart (turnFits (s .turns .ula)) (turnFits (s .turns .tiles) ∷ []) (g .1 .1 .1 .0) in
@@ -54,7 +58,8 @@ module _ (s : State) where
       let c = all .1 in
       record {
         ulay = u .0;
-        ulacontrol = u .1 .0;
+        loresy = u .1 .0;
+        ulacontrol = u .1 .1 .0;
         mask = p .0;
         choice = p .1 .0;
         half = p .1 .1 .0;
@@ -76,7 +81,7 @@ module _ (s : State) where
   pub kept-lawful : Kept s → lawfulState s ≡ true
   unfolding lawfulState
   kept-lawful k =
-      let u : lawfulUla (s .ula) ≡ true = chain-join (ulaYFits (s .ula .y)) (ulaControlFits (s .ula .control) ∷ []) (k .ulay) (k .ulacontrol, tt) in
+      let u : lawfulUla (s .ula) ≡ true = chain-join (offsetYFits (s .ula .y)) inUla (k .ulay) (k .loresy, (k .ulacontrol, tt)) in
       let p : lawfulPalette (s .palette) ≡ true = chain-join (isMask (s .palette .mask)) inPalette (k .mask) (k .choice, (k .half, tt)) in
       let t : lawfulTiles (s .tiles) ≡ true =
       chain-join (tileTransparentFits (s .tiles .transparent)) inTiles (k .tiletransparent) (k .tilecontrol, (k .xhigh, (k .map, (k .definitions, tt)))) in

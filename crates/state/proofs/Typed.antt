@@ -14,7 +14,7 @@ use Rattle.state.specs.declared.Palette.{Palette}
 use Rattle.state.specs.declared.Turns.{Turns}
 use Rattle.state.specs.declared.Ports.{Ports}
 use Rattle.state.specs.Typed.{Numbers, UlaTyped, TilesTyped, PaletteTyped, TurnsTyped, PortsTyped, Typed}
-use Rattle.state.specs.Groups.{ulaWithTransparent, ulaWithLayers, ulaWithPeripheral, ulaWithFallback, ulaWithControl, ulaWithX, ulaWithY, tilesWithTransparent, tilesWithControl, tilesWithAttribute, tilesWithXHigh, tilesWithXLow, tilesWithY, tilesWithMap, tilesWithDefinitions, paletteWithControl, paletteWithIndex, paletteWithMask, paletteWithHalf, paletteWithoutHalf, turnsWithUla, turnsWithTiles, portsWithBorder, portsWithTimex, portsWithSelect, portsWithPlus}
+use Rattle.state.specs.Groups.{ulaWithTransparent, ulaWithLayers, ulaWithPeripheral, ulaWithFallback, ulaWithControl, ulaWithX, ulaWithY, ulaWithLoresX, ulaWithLoresY, tilesWithTransparent, tilesWithControl, tilesWithAttribute, tilesWithXHigh, tilesWithXLow, tilesWithY, tilesWithMap, tilesWithDefinitions, paletteWithControl, paletteWithIndex, paletteWithMask, paletteWithHalf, paletteWithoutHalf, turnsWithUla, turnsWithTiles, portsWithBorder, portsWithTimex, portsWithSelect, portsWithPlus}
 use Rattle.state.specs.With.{withUla, withTiles, withPalette, withTurns, withPorts, withFrame, withUlaClip, withTileClip, withPlus, withUlaFirst, withUlaSecond, withTileFirst, withTileSecond}
 
 -- ---- arrays
@@ -52,25 +52,31 @@ numbers-four b w x y z lw lx ly lz = record { long = refl; below = below-four }
 
 module _ (u : Ula) (v : ℕ) (b : v < 256) (t : UlaTyped u) where
   pub ula-transparent : UlaTyped (ulaWithTransparent u v)
-  ula-transparent = record { transparent = b; layers = t .layers; peripheral = t .peripheral; fallback = t .fallback; control = t .control; x = t .x; y = t .y }
+  ula-transparent = record { transparent = b; layers = t .layers; peripheral = t .peripheral; fallback = t .fallback; control = t .control; x = t .x; y = t .y; loresx = t .loresx; loresy = t .loresy }
 
   pub ula-layers : UlaTyped (ulaWithLayers u v)
-  ula-layers = record { transparent = t .transparent; layers = b; peripheral = t .peripheral; fallback = t .fallback; control = t .control; x = t .x; y = t .y }
+  ula-layers = record { transparent = t .transparent; layers = b; peripheral = t .peripheral; fallback = t .fallback; control = t .control; x = t .x; y = t .y; loresx = t .loresx; loresy = t .loresy }
 
   pub ula-peripheral : UlaTyped (ulaWithPeripheral u v)
-  ula-peripheral = record { transparent = t .transparent; layers = t .layers; peripheral = b; fallback = t .fallback; control = t .control; x = t .x; y = t .y }
+  ula-peripheral = record { transparent = t .transparent; layers = t .layers; peripheral = b; fallback = t .fallback; control = t .control; x = t .x; y = t .y; loresx = t .loresx; loresy = t .loresy }
 
   pub ula-fallback : UlaTyped (ulaWithFallback u v)
-  ula-fallback = record { transparent = t .transparent; layers = t .layers; peripheral = t .peripheral; fallback = b; control = t .control; x = t .x; y = t .y }
+  ula-fallback = record { transparent = t .transparent; layers = t .layers; peripheral = t .peripheral; fallback = b; control = t .control; x = t .x; y = t .y; loresx = t .loresx; loresy = t .loresy }
 
   pub ula-control : UlaTyped (ulaWithControl u v)
-  ula-control = record { transparent = t .transparent; layers = t .layers; peripheral = t .peripheral; fallback = t .fallback; control = b; x = t .x; y = t .y }
+  ula-control = record { transparent = t .transparent; layers = t .layers; peripheral = t .peripheral; fallback = t .fallback; control = b; x = t .x; y = t .y; loresx = t .loresx; loresy = t .loresy }
 
   pub ula-x : UlaTyped (ulaWithX u v)
-  ula-x = record { transparent = t .transparent; layers = t .layers; peripheral = t .peripheral; fallback = t .fallback; control = t .control; x = b; y = t .y }
+  ula-x = record { transparent = t .transparent; layers = t .layers; peripheral = t .peripheral; fallback = t .fallback; control = t .control; x = b; y = t .y; loresx = t .loresx; loresy = t .loresy }
 
   pub ula-y : UlaTyped (ulaWithY u v)
-  ula-y = record { transparent = t .transparent; layers = t .layers; peripheral = t .peripheral; fallback = t .fallback; control = t .control; x = t .x; y = b }
+  ula-y = record { transparent = t .transparent; layers = t .layers; peripheral = t .peripheral; fallback = t .fallback; control = t .control; x = t .x; y = b; loresx = t .loresx; loresy = t .loresy }
+
+  pub ula-loresx : UlaTyped (ulaWithLoresX u v)
+  ula-loresx = record { transparent = t .transparent; layers = t .layers; peripheral = t .peripheral; fallback = t .fallback; control = t .control; x = t .x; y = t .y; loresx = b; loresy = t .loresy }
+
+  pub ula-loresy : UlaTyped (ulaWithLoresY u v)
+  ula-loresy = record { transparent = t .transparent; layers = t .layers; peripheral = t .peripheral; fallback = t .fallback; control = t .control; x = t .x; y = t .y; loresx = t .loresx; loresy = b }
 
 -- ---- a byte in one field of the tilemap's registers
 

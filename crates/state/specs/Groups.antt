@@ -9,31 +9,39 @@ use Rattle.state.specs.declared.Ports.{Ports}
 
 -- $14
 abbrev pub ulaWithTransparent : Ula → ℕ → Ula
-ulaWithTransparent u v = record { transparent = v; layers = u .layers; peripheral = u .peripheral; fallback = u .fallback; control = u .control; x = u .x; y = u .y }
+ulaWithTransparent u v = record { transparent = v; layers = u .layers; peripheral = u .peripheral; fallback = u .fallback; control = u .control; x = u .x; y = u .y; loresx = u .loresx; loresy = u .loresy }
 
 -- $15
 abbrev pub ulaWithLayers : Ula → ℕ → Ula
-ulaWithLayers u v = record { transparent = u .transparent; layers = v; peripheral = u .peripheral; fallback = u .fallback; control = u .control; x = u .x; y = u .y }
+ulaWithLayers u v = record { transparent = u .transparent; layers = v; peripheral = u .peripheral; fallback = u .fallback; control = u .control; x = u .x; y = u .y; loresx = u .loresx; loresy = u .loresy }
 
 -- $08
 abbrev pub ulaWithPeripheral : Ula → ℕ → Ula
-ulaWithPeripheral u v = record { transparent = u .transparent; layers = u .layers; peripheral = v; fallback = u .fallback; control = u .control; x = u .x; y = u .y }
+ulaWithPeripheral u v = record { transparent = u .transparent; layers = u .layers; peripheral = v; fallback = u .fallback; control = u .control; x = u .x; y = u .y; loresx = u .loresx; loresy = u .loresy }
 
 -- $4A
 abbrev pub ulaWithFallback : Ula → ℕ → Ula
-ulaWithFallback u v = record { transparent = u .transparent; layers = u .layers; peripheral = u .peripheral; fallback = v; control = u .control; x = u .x; y = u .y }
+ulaWithFallback u v = record { transparent = u .transparent; layers = u .layers; peripheral = u .peripheral; fallback = v; control = u .control; x = u .x; y = u .y; loresx = u .loresx; loresy = u .loresy }
 
 -- $68
 abbrev pub ulaWithControl : Ula → ℕ → Ula
-ulaWithControl u v = record { transparent = u .transparent; layers = u .layers; peripheral = u .peripheral; fallback = u .fallback; control = v; x = u .x; y = u .y }
+ulaWithControl u v = record { transparent = u .transparent; layers = u .layers; peripheral = u .peripheral; fallback = u .fallback; control = v; x = u .x; y = u .y; loresx = u .loresx; loresy = u .loresy }
+
+-- $26
+abbrev pub ulaWithX : Ula → ℕ → Ula
+ulaWithX u v = record { transparent = u .transparent; layers = u .layers; peripheral = u .peripheral; fallback = u .fallback; control = u .control; x = v; y = u .y; loresx = u .loresx; loresy = u .loresy }
+
+-- $27
+abbrev pub ulaWithY : Ula → ℕ → Ula
+ulaWithY u v = record { transparent = u .transparent; layers = u .layers; peripheral = u .peripheral; fallback = u .fallback; control = u .control; x = u .x; y = v; loresx = u .loresx; loresy = u .loresy }
 
 -- $32
-abbrev pub ulaWithX : Ula → ℕ → Ula
-ulaWithX u v = record { transparent = u .transparent; layers = u .layers; peripheral = u .peripheral; fallback = u .fallback; control = u .control; x = v; y = u .y }
+abbrev pub ulaWithLoresX : Ula → ℕ → Ula
+ulaWithLoresX u v = record { transparent = u .transparent; layers = u .layers; peripheral = u .peripheral; fallback = u .fallback; control = u .control; x = u .x; y = u .y; loresx = v; loresy = u .loresy }
 
 -- $33
-abbrev pub ulaWithY : Ula → ℕ → Ula
-ulaWithY u v = record { transparent = u .transparent; layers = u .layers; peripheral = u .peripheral; fallback = u .fallback; control = u .control; x = u .x; y = v }
+abbrev pub ulaWithLoresY : Ula → ℕ → Ula
+ulaWithLoresY u v = record { transparent = u .transparent; layers = u .layers; peripheral = u .peripheral; fallback = u .fallback; control = u .control; x = u .x; y = u .y; loresx = u .loresx; loresy = v }
 
 -- $4C
 abbrev pub tilesWithTransparent : Tiles → ℕ → Tiles

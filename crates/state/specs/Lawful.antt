@@ -10,11 +10,11 @@ use Rattle.state.specs.declared.Tiles.{Tiles}
 use Rattle.state.specs.declared.Palette.{Palette}
 use Rattle.state.specs.declared.Turns.{Turns}
 use Rattle.state.specs.declared.Ports.{Ports}
-use Rattle.register_bounds.specs.Bounds.{ulaYFits, ulaControlFits, isMask, isChoice, halfFits, tileTransparentFits, tileControlFits, xHighFits, baseFits, turnFits, borderFits, selectFits, colourFits}
+use Rattle.register_bounds.specs.Bounds.{offsetYFits, ulaControlFits, isMask, isChoice, halfFits, tileTransparentFits, tileControlFits, xHighFits, baseFits, turnFits, borderFits, selectFits, colourFits}
 
--- $33, $68
+-- $27, $33, $68
 abbrev pub lawfulUla : Ula → Bool
-lawfulUla u = ulaYFits (u .y) && ulaControlFits (u .control)
+lawfulUla u = offsetYFits (u .y) && offsetYFits (u .loresy) && ulaControlFits (u .control)
 
 -- $42, $43, and a held byte
 abbrev pub lawfulPalette : Palette → Bool

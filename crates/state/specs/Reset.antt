@@ -9,7 +9,7 @@ use Rattle.state.specs.declared.Palette.{Palette}
 
 -- $14: reset $E3
 abbrev pub resetUla : Ula
-resetUla = record { transparent = 0xE3; layers = 0; peripheral = 0; fallback = 0; control = 0; x = 0; y = 0 }
+resetUla = record { transparent = 0xE3; layers = 0; peripheral = 0; fallback = 0; control = 0; x = 0; y = 0; loresx = 0; loresy = 0 }
 
 -- $4C: reset 15
 abbrev pub resetTiles : Tiles

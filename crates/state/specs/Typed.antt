@@ -24,6 +24,8 @@ pub record UlaTyped (u : Ula) : Type 0 where
   pub control : u .control < 256
   pub x : u .x < 256
   pub y : u .y < 256
+  pub loresx : u .loresx < 256
+  pub loresy : u .loresy < 256
 
 pub record TilesTyped (t : Tiles) : Type 0 where
   pub transparent : t .transparent < 256

@@ -14,19 +14,19 @@ use register_bounds::border_fits;
 use register_bounds::half_fits;
 use register_bounds::is_choice;
 use register_bounds::is_mask;
+use register_bounds::offset_y_fits;
 use register_bounds::select_fits;
 use register_bounds::tile_control_fits;
 use register_bounds::tile_transparent_fits;
 use register_bounds::turn_fits;
 use register_bounds::ula_control_fits;
-use register_bounds::ula_y_fits;
 use register_bounds::x_high_fits;
 use reply::Reply;
 
 fn lawful_ula(u: Ula) -> bool
     ensures { λ r. ⌜ r ≡ lawfulUla u ⌝ }
 {
-    ula_y_fits(u.y) & ula_control_fits(u.control)
+    offset_y_fits(u.y) & offset_y_fits(u.loresy) & ula_control_fits(u.control)
 }
 
 fn lawful_palette(p: Palette) -> bool

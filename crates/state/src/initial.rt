@@ -19,6 +19,8 @@ fn reset_ula() -> Ula
         control: 0,
         x: 0,
         y: 0,
+        loresx: 0,
+        loresy: 0,
     }
 }
 

@@ -20,10 +20,14 @@ pub struct Ula {
     pub fallback: u8,
     // $68
     pub control: u8,
-    // $32
+    // $26
     pub x: u8,
-    // $33
+    // $27
     pub y: u8,
+    // $32
+    pub loresx: u8,
+    // $33
+    pub loresy: u8,
 }
 
 // The tilemap's registers.

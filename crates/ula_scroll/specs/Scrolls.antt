@@ -1,4 +1,4 @@
--- Rules 3.6, 4.3, 4.9 and 4.11: the byte of the bank that a pixel of the display reads, by the offsets.
+-- Rules 3.6, 3.32, 4.3, 4.9 and 4.11: the byte of the bank that a pixel of the display reads, by the offsets.
 use Prim.Native.Nat.{ℕ, _+_, _*_, _/_, _%_}
 use mathlib.Core.Bool.{cond}
 use Rattle.state.specs.declared.Ula.{Ula}
@@ -6,13 +6,13 @@ use Rattle.ula_mode.specs.declared.modes.Mode.{Mode}
 use Rattle.ula_mode.specs.Modes.{isLores}
 use Rattle.ula_scroll.specs.declared.scrolls.Scroll.{Scroll}
 
--- the ULA's offsets, $32 and $33
+-- the offsets of the ULA and its Timex modes, $26 and $27
 abbrev pub ulaScroll : Ula → Scroll
 ulaScroll u = record { x = u .x; y = u .y }
 
 -- LoRes's offsets, $32 and $33
 abbrev pub loresScroll : Ula → Scroll
-loresScroll u = record { x = u .x; y = u .y }
+loresScroll u = record { x = u .loresx; y = u .loresy }
 
 -- the offsets of a mode
 unfoldable pub scrollOf : Mode → Ula → Scroll

@@ -14,7 +14,7 @@ pub struct Scroll {
     pub y: usize,
 }
 
-// The scroll of the ULA and its Timex modes.
+// The scroll of the ULA and its Timex modes: $26 and $27.
 fn ula_scroll(u: Ula) -> Scroll
     ensures { λ r. ⌜ (r ≡ ulaScroll u) × (ScrollBounds r) ⌝ }
 {
@@ -24,12 +24,13 @@ fn ula_scroll(u: Ula) -> Scroll
     }
 }
 
+// The scroll of LoRes: $32 and $33.
 fn lores_scroll(u: Ula) -> Scroll
     ensures { λ r. ⌜ (r ≡ loresScroll u) × (ScrollBounds r) ⌝ }
 {
     Scroll {
-        x: usize_of(u.x),
-        y: usize_of(u.y),
+        x: usize_of(u.loresx),
+        y: usize_of(u.loresy),
     }
 }
 

@@ -4,7 +4,7 @@
 use crate::lent::{same, same_items, Lent};
 use crate::seen::{Call, Seen};
 use crate::states::record_of;
-use model::reply::{DONE, NOT_A_RECORD, NO_FORM, WRONG_BUFFER};
+use model::reply::{DONE, NOT_A_RECORD, NO_FORM, PAIRS_DIFFER, WRONG_BUFFER};
 use model::scr::{lent_read_scr, lent_write_scr};
 use model::{State, SCREEN_LENGTH};
 use narephon::raw;
@@ -24,7 +24,8 @@ fn number<T>(answer: &Result<T, narephon::Reply>) -> u8 {
     }
 }
 
-/// A call that changes a record. The record lent is the state, so afterwards it is the record of the model's state.
+/// A call that changes a record, of version 2 only. The record lent is the state, so afterwards it is the record of the
+/// model's state.
 fn changing(
     call: Call,
     record: &mut Lent<u8>,
@@ -33,19 +34,20 @@ fn changing(
     lent: impl Fn(*mut u8, usize) -> u8,
     wrapped: impl Fn(&mut [u8]) -> Result<(), narephon::Reply>,
 ) -> Checked {
-    let mut copy = record.items().to_vec();
-    let (reply, wanted) = match model::read_record(&copy) {
+    let before = record.items().to_vec();
+    let mut copy = before.clone();
+    let (reply, wanted) = match model::read_new(&before) {
         (DONE, state) => {
             let (reply, after) = modelled(&state);
             (reply, record_of(&after))
         }
-        (reply, _) => (reply, copy.clone()),
+        (reply, _) => (reply, before.clone()),
     };
     same("reply", lent(record.pointer(), record.count()), reply)?;
     record.check("record", &wanted)?;
     same("wrapper's reply", number(&wrapped(&mut copy)), reply)?;
     same_items("wrapper's record", &copy, &wanted)?;
-    seen.reply(call, reply);
+    seen.lent(call, &before, reply);
     Ok(reply)
 }
 
@@ -88,7 +90,7 @@ pub fn write_port(record: &mut Lent<u8>, port: u16, value: u8, seen: &mut Seen) 
     checked.map_err(|what| format!("write_port ${port:04X}, {value}: {what}"))
 }
 
-/// A call that reads a record and leaves it.
+/// A call that reads a record, of either version, and leaves it.
 fn reading(
     call: Call,
     record: &mut Lent<u8>,
@@ -111,7 +113,7 @@ fn reading(
     let answer = wrapped(&before);
     same("wrapper's reply", number(&answer), reply)?;
     same("wrapper's value", answer.unwrap_or(0), wanted)?;
-    seen.reply(call, reply);
+    seen.lent(call, &before, reply);
     Ok(reply)
 }
 
@@ -159,17 +161,86 @@ pub fn reset(record: &mut Lent<u8>, seen: &mut Seen) -> Checked {
     Ok(reply)
 }
 
-/// A record judged and left, by whether the model reads it.
+/// A record judged and left, by whether the model reads it; and loaded by the wrapper, as one of version 2.
 pub fn check_record(record: &mut Lent<u8>, seen: &mut Seen) -> Checked {
     let before = record.items().to_vec();
-    let (reply, _) = model::read_record(&before);
+    let (reply, state) = model::read_record(&before);
     let got = unsafe { raw::narephon_check_record(record.pointer(), record.count()) };
     same("check_record: reply", got, reply)?;
     record.check("check_record: record", &before)?;
     let answer = narephon::check_record(&before);
     same("check_record: wrapper's reply", number(&answer), reply)?;
-    seen.reply(Call::CheckRecord, reply);
+    let loaded = narephon::load_record(&before);
+    same("load_record: reply", number(&loaded), reply)?;
+    if let Ok(loaded) = loaded {
+        same_items("load_record: record", &loaded, &record_of(&state))?;
+    }
+    seen.lent(Call::CheckRecord, &before, reply);
     Ok(reply)
+}
+
+/// A move into a target of `length` bytes; its reply, and the target.
+type Moved = Result<(u8, Vec<u8>), String>;
+
+pub fn move_up(record: &mut Lent<u8>, length: usize, seen: &mut Seen) -> Moved {
+    let moved = moving(
+        record,
+        length,
+        model::move_up,
+        raw::narephon_move_up,
+        |record| narephon::move_up(record).map(Vec::from),
+    );
+    noted(Call::MoveUp, record, length, seen, moved)
+}
+
+pub fn move_back(record: &mut Lent<u8>, length: usize, seen: &mut Seen) -> Moved {
+    let moved = moving(
+        record,
+        length,
+        model::move_back,
+        raw::narephon_move_back,
+        |record| narephon::move_back(record).map(Vec::from),
+    );
+    noted(Call::MoveBack, record, length, seen, moved)
+}
+
+/// Names the call in a difference, and counts it where there is none.
+fn noted(call: Call, record: &Lent<u8>, length: usize, seen: &mut Seen, moved: Moved) -> Moved {
+    let (reply, target) = moved.map_err(|what| format!("{call:?} into {length} bytes: {what}"))?;
+    seen.lent(call, record.items(), reply);
+    if matches!(reply, NOT_A_RECORD | PAIRS_DIFFER) {
+        if let (DONE, state) = model::read_new(record.items()) {
+            seen.unmoved(call, &state);
+        }
+    }
+    Ok((reply, target))
+}
+
+fn moving(
+    record: &mut Lent<u8>,
+    length: usize,
+    modelled: fn(&[u8], &mut [u8]) -> u8,
+    lent: unsafe extern "C" fn(*const u8, usize, *mut u8, usize) -> u8,
+    wrapped: impl Fn(&[u8]) -> Result<Vec<u8>, narephon::Reply>,
+) -> Moved {
+    let before = record.items().to_vec();
+    let blank = vec![0xAA; length];
+    let mut wanted = blank.clone();
+    let reply = modelled(&before, &mut wanted);
+    let mut target = lend(&blank);
+    let (pointer, count) = (target.pointer(), target.count());
+    // SAFETY: each pointer and length are those of one live buffer, and the target overlaps nothing.
+    let got = unsafe { lent(record.pointer(), record.count(), pointer, count) };
+    same("reply", got, reply)?;
+    target.check("target", &wanted)?;
+    record.check("record", &before)?;
+    // The wrapper's target has the right length always.
+    if reply != WRONG_BUFFER {
+        let answer = wrapped(&before);
+        same("wrapper's reply", number(&answer), reply)?;
+        same_items("wrapper's record", &answer.unwrap_or(blank), &wanted)?;
+    }
+    Ok((reply, wanted))
 }
 
 /// The two banks of a line. Where there is one, it is lent as both.
@@ -237,7 +308,7 @@ pub fn draw(
 ) -> Checked {
     let (reply, state) = compared_line(record, banks, line, length)
         .map_err(|what| format!("draw of line {line}: {what}"))?;
-    seen.reply(Call::Draw, reply);
+    seen.lent(Call::Draw, record.items(), reply);
     if reply == DONE {
         seen.line(&state);
     }
@@ -293,10 +364,11 @@ pub fn read_scr(
     file: &[u8],
     seen: &mut Seen,
 ) -> Checked {
-    let (_, state) = model::read_record(record.items());
+    let before = record.items().to_vec();
+    let (_, state) = model::read_record(&before);
     let reply = compared_reading(record, bank, file)
         .map_err(|what| format!("read_scr of {} bytes: {what}", file.len()))?;
-    seen.reply(Call::ReadScr, reply);
+    seen.lent(Call::ReadScr, &before, reply);
     match reply {
         DONE => seen.screen_read(&state, file.len()),
         NO_FORM => seen.screen_unread(file.len()),
@@ -374,7 +446,7 @@ pub fn write_scr_into(
     let (_, state) = model::read_record(record.items());
     let (reply, file) = compared_writing(record, bank, length)
         .map_err(|what| format!("write_scr into {length} bytes: {what}"))?;
-    seen.reply(Call::WriteScr, reply);
+    seen.lent(Call::WriteScr, record.items(), reply);
     match reply {
         DONE => seen.screen_written(&state, file.len()),
         NO_FORM => seen.screen_unwritten(&state),

@@ -1,18 +1,23 @@
 //! The comparison's jobs. A job is so many rounds, and a round is told by its seed alone.
 
 use crate::calls::{
-    check_record, draw, fewest, lend, next_frame, pack, read_port, read_register, read_scr, reset,
-    screen_value, write_port, write_register, write_scr, Banks, Packing,
+    check_record, draw, fewest, lend, move_back, move_up, next_frame, pack, read_port,
+    read_register, read_scr, reset, screen_value, write_port, write_register, write_scr, Banks,
+    Packing,
 };
 use crate::lent::{same, same_items, Lent};
+use crate::move_jobs;
 use crate::pictures;
 use crate::random::Random;
 use crate::screen_jobs;
 use crate::screens::any_file;
 use crate::seen::Seen;
-use crate::states::{bank, damage, hold, lawful, lead, line, record_of, value, SETTINGS};
+use crate::states::{
+    any_record_of, bank, damage, hold, lawful, lead, line, old_record_of, record_of, value,
+    PALETTES, SETTINGS,
+};
 use model::reply::DONE;
-use model::{State, BANK_LENGTH, DOTS, RECORD_LENGTH, SCREEN_LENGTH};
+use model::{State, BANK_LENGTH, DOTS, OLD_RECORD_LENGTH, RECORD_LENGTH, SCREEN_LENGTH};
 
 pub type Done = Result<(), String>;
 
@@ -24,7 +29,7 @@ pub struct Job {
 
 /// Every job. Rounds of neighbouring seeds take register numbers, port numbers, bytes, lengths and settings in turn, so
 /// the rounds of a job are multiples of those where each is to be met.
-pub const JOBS: [Job; 16] = [
+pub const JOBS: [Job; 17] = [
     Job {
         name: "packings",
         rounds: 12 * pictures::KINDS,
@@ -52,13 +57,18 @@ pub const JOBS: [Job; 16] = [
     },
     Job {
         name: "record bytes",
-        rounds: RECORD_LENGTH as u64,
+        rounds: RECORD_PLACES,
         run: record_bytes,
     },
     Job {
         name: "record lengths",
-        rounds: 2_400,
+        rounds: 2 * 2_400,
         run: record_lengths,
+    },
+    Job {
+        name: "moves",
+        rounds: 3_000,
+        run: move_jobs::moves,
     },
     Job {
         name: "lines",
@@ -112,8 +122,8 @@ const PORTS: [u16; 4] = [0x00FE, 0x00FF, 0xBF3B, 0xFF3B];
 /// A register number: mostly one that there is.
 fn register(random: &mut Random) -> u8 {
     let known = [
-        0x08, 0x14, 0x15, 0x1A, 0x1B, 0x1C, 0x2F, 0x30, 0x31, 0x32, 0x33, 0x40, 0x41, 0x42, 0x43,
-        0x44, 0x4A, 0x4C, 0x68, 0x6B, 0x6C, 0x6E, 0x6F,
+        0x08, 0x14, 0x15, 0x1A, 0x1B, 0x1C, 0x26, 0x27, 0x2F, 0x30, 0x31, 0x32, 0x33, 0x40, 0x41,
+        0x42, 0x43, 0x44, 0x4A, 0x4C, 0x68, 0x6B, 0x6C, 0x6E, 0x6F,
     ];
     match random.below(8) {
         0 => random.byte(),
@@ -270,6 +280,8 @@ fn every_call(random: &mut Random, bytes: &[u8], seen: &mut Seen) -> Done {
     draw(&mut record, &mut banks, line(random), DOTS, seen)?;
     let mut bank = lend(&vec![random.byte(); BANK_LENGTH]);
     write_scr(&mut record, &mut bank, seen)?;
+    move_up(&mut record, RECORD_LENGTH, seen)?;
+    move_back(&mut record, OLD_RECORD_LENGTH, seen)?;
     read_scr(&mut record, &mut bank, &any_file(random), seen)?;
     reset(&mut record, seen)?;
     Ok(())
@@ -278,21 +290,28 @@ fn every_call(random: &mut Random, bytes: &[u8], seen: &mut Seen) -> Done {
 /// A lawful record damaged.
 fn damaged_records(seed: u64, seen: &mut Seen) -> Done {
     let mut random = Random::new(seed);
-    let mut bytes = record_of(&lawful(&mut random));
+    let state = lawful(&mut random);
+    let mut bytes = any_record_of(&mut random, &state);
     damage(&mut random, &mut bytes);
     every_call(&mut random, &bytes, seen)
 }
 
+/// How many places records of both versions have.
+const RECORD_PLACES: u64 = (RECORD_LENGTH + OLD_RECORD_LENGTH) as u64;
+
 /// One byte of a record replaced: before the palettes by each value, in a palette by some.
 fn record_bytes(seed: u64, seen: &mut Seen) -> Done {
     let mut random = Random::new(seed);
-    let place = (seed % RECORD_LENGTH as u64) as usize;
-    let mut bytes = record_of(&lawful(&mut random));
+    let state = lawful(&mut random);
+    let (mut bytes, place) = match (seed % RECORD_PLACES) as usize {
+        place @ 0..RECORD_LENGTH => (record_of(&state), place),
+        place => (old_record_of(&state), place - RECORD_LENGTH),
+    };
     let mut record = lend(&bytes);
     let (mut bank, file) = (lend(&bank(&mut random)), any_file(&mut random));
     let some = [0, 1, 2, 3, 127, 128, 254, 255];
     for byte in 0..=255 {
-        if place >= 102 && !some.contains(&byte) {
+        if place >= bytes.len() - PALETTES && !some.contains(&byte) {
             continue;
         }
         bytes[place] = byte;
@@ -300,12 +319,14 @@ fn record_bytes(seed: u64, seen: &mut Seen) -> Done {
         check_record(&mut record, seen)?;
         let (number, port) = (register(&mut random), port(&mut random));
         let written = value(&mut random);
-        match random.below(6) {
+        match random.below(8) {
             0 => write_register(&mut record, number, written, seen)?,
             1 => write_port(&mut record, port, written, seen)?,
             2 => read_register(&mut record, number, seen)?,
             3 => write_scr(&mut record, &mut bank, seen)?.0,
             4 => read_scr(&mut record, &mut bank, &file, seen)?,
+            5 => move_up(&mut record, RECORD_LENGTH, seen)?.0,
+            6 => move_back(&mut record, OLD_RECORD_LENGTH, seen)?.0,
             _ => read_port(&mut record, port, seen)?,
         };
         record.set(&bytes);
@@ -317,12 +338,16 @@ fn record_bytes(seed: u64, seen: &mut Seen) -> Done {
 /// A record cut short, or with more bytes behind it.
 fn record_lengths(seed: u64, seen: &mut Seen) -> Done {
     let mut random = Random::new(seed);
+    let state = lawful(&mut random);
+    let mut bytes = match seed / 2_400 % 2 {
+        0 => record_of(&state),
+        _ => old_record_of(&state),
+    };
     let length = match seed % 2_400 {
         2_398 => 4_300,
-        2_399 => 65_536 + RECORD_LENGTH,
+        2_399 => 65_536 + bytes.len(),
         length => length as usize,
     };
-    let mut bytes = record_of(&lawful(&mut random));
     bytes.resize(length, 0);
     every_call(&mut random, &bytes, seen)
 }
@@ -337,7 +362,7 @@ fn setting(random: &mut Random, seed: u64) -> (Lent<u8>, Banks) {
     } else {
         Banks::two(ula, bank(random))
     };
-    (lend(&record_of(&state)), banks)
+    (lend(&any_record_of(random, &state)), banks)
 }
 
 fn lines(seed: u64, seen: &mut Seen) -> Done {
@@ -359,6 +384,16 @@ fn whole_screens(seed: u64, seen: &mut Seen) -> Done {
     Ok(())
 }
 
+/// A record of either version, one time in three damaged.
+pub fn perhaps_damaged(random: &mut Random) -> Vec<u8> {
+    let state = lawful(random);
+    let mut bytes = any_record_of(random, &state);
+    if random.one_in(3) {
+        damage(random, &mut bytes);
+    }
+    bytes
+}
+
 /// A bank of the right length or another.
 pub fn any_bank(random: &mut Random) -> Vec<u8> {
     let other = random.pick(&[0, 1, 6_912, 16_383, 16_385, 32_768]);
@@ -369,11 +404,7 @@ pub fn any_bank(random: &mut Random) -> Vec<u8> {
 /// Several things wrong with a line at once, so that the order of the replies shows.
 fn refused_lines(seed: u64, seen: &mut Seen) -> Done {
     let mut random = Random::new(seed);
-    let mut bytes = record_of(&lawful(&mut random));
-    if random.one_in(3) {
-        damage(&mut random, &mut bytes);
-    }
-    let mut record = lend(&bytes);
+    let mut record = lend(&perhaps_damaged(&mut random));
     let mut banks = Banks::two(any_bank(&mut random), any_bank(&mut random));
     let above = random.pick(&[256, 257, 511, 512, 65_536, 1 << 31, u32::MAX]);
     let wrong = random.pick(&[0, 1, 320, 639, 641, 1_280]);
@@ -445,7 +476,7 @@ fn bounds(seed: u64, seen: &mut Seen) -> Done {
 }
 
 /// The right length, or now and then another.
-fn length(random: &mut Random, right: usize) -> usize {
+pub fn length(random: &mut Random, right: usize) -> usize {
     let other = random.below(2 * right as u64) as usize;
     let wrong = random.pick(&[0, 1, right - 1, right + 1, 2 * right, other]);
     if random.one_in(6) {

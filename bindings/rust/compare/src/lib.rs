@@ -3,6 +3,7 @@
 pub mod calls;
 pub mod jobs;
 pub mod lent;
+pub mod move_jobs;
 pub mod pictures;
 pub mod random;
 pub mod screen_jobs;

@@ -1,12 +1,12 @@
 //! The jobs on screen files.
 
 use crate::calls::{draw, lend, read_scr, write_scr, write_scr_into, Banks};
-use crate::jobs::{any_bank, Done};
+use crate::jobs::{any_bank, perhaps_damaged, Done};
 use crate::lent::{same, same_items, Lent};
 use crate::random::Random;
 use crate::screens::{any_file, file, file_with_port, LENGTHS};
 use crate::seen::Seen;
-use crate::states::{bank, damage, lawful, lead, line, record_of};
+use crate::states::{any_record_of, bank, lawful, lead, line, record_of};
 use model::reply::{DONE, NO_FORM};
 use model::{State, DOTS, SCREEN_LENGTH};
 
@@ -93,7 +93,8 @@ pub fn written(seed: u64, seen: &mut Seen) -> Done {
 
 /// A screen written and, where it has a form, read into another record and bank, which then write the same file.
 fn passed_on(random: &mut Random, state: &State, seen: &mut Seen) -> Done {
-    let (mut record, mut bank) = (lend(&record_of(state)), lend(&bank(random)));
+    let mut record = lend(&any_record_of(random, state));
+    let mut bank = lend(&bank(random));
     let (reply, file) = write_scr(&mut record, &mut bank, seen)?;
     if reply != DONE {
         return Ok(());
@@ -108,11 +109,7 @@ fn passed_on(random: &mut Random, state: &State, seen: &mut Seen) -> Done {
 /// Several things wrong at once, so that the order of the replies shows.
 pub fn refused(seed: u64, seen: &mut Seen) -> Done {
     let mut random = Random::new(seed);
-    let mut bytes = record_of(&lawful(&mut random));
-    if random.one_in(3) {
-        damage(&mut random, &mut bytes);
-    }
-    let mut record = lend(&bytes);
+    let mut record = lend(&perhaps_damaged(&mut random));
     let mut bank = lend(&any_bank(&mut random));
     let other = random.below(2 * SCREEN_LENGTH as u64) as usize;
     let wrong = random.pick(&[0, 1, 6_912, SCREEN_LENGTH - 1, SCREEN_LENGTH + 1, other]);

@@ -1,7 +1,8 @@
-//! How often each reply and each kind of line was reached.
+//! How often each reply, each kind of call and each kind of line was reached.
 
+use model::reply::{DONE, NOT_A_RECORD};
 use model::ula::{colouring, Colouring};
-use model::{ula_mode, Mode, State};
+use model::{read_old, ula_mode, Mode, State};
 use std::collections::BTreeMap;
 use std::fmt::Write;
 
@@ -10,6 +11,8 @@ use std::fmt::Write;
 pub enum Call {
     Reset,
     CheckRecord,
+    MoveUp,
+    MoveBack,
     NextFrame,
     WriteRegister,
     WritePort,
@@ -25,9 +28,11 @@ pub enum Call {
 
 /// The replies that each call can give. No call gives 4: an unlawful state can only come in a record, and such a record
 /// is 13.
-const POSSIBLE: [(Call, &[u8]); 13] = [
+const POSSIBLE: [(Call, &[u8]); 15] = [
     (Call::Reset, &[0, 3]),
     (Call::CheckRecord, &[0, 13]),
+    (Call::MoveUp, &[0, 3, 13]),
+    (Call::MoveBack, &[0, 3, 13, 15]),
     (Call::NextFrame, &[0, 13]),
     (Call::WriteRegister, &[0, 9, 10, 13]),
     (Call::WritePort, &[0, 9, 10, 13]),
@@ -41,12 +46,32 @@ const POSSIBLE: [(Call, &[u8]); 13] = [
     (Call::Fewest, &[0, 3, 11]),
 ];
 
-/// The replies are 0 to 14.
-const REPLIES: u8 = 15;
+/// The replies are 0 to 15.
+const REPLIES: u8 = 16;
 
-/// What a screen file was: a form that was read or written, by mode and colours, what a refusal by 14 was for, or what the
-/// state was besides.
-const SCREENS: [(Call, &str); 22] = [
+/// Kinds of a call. Of a screen file: its form, by mode and colours, what a refusal by 14 was for, or what the state was
+/// besides. Of an old record: that it was taken, or refused for its version. Of a record of version 2: why it was not
+/// moved. Of a line: that its mode was scrolled otherwise than the others.
+const KINDS: [(Call, &str); 41] = [
+    (Call::CheckRecord, OLD),
+    (Call::ReadRegister, OLD),
+    (Call::ReadPort, OLD),
+    (Call::Draw, OLD),
+    (Call::WriteScr, OLD),
+    (Call::NextFrame, OLD_REFUSED),
+    (Call::WriteRegister, OLD_REFUSED),
+    (Call::WritePort, OLD_REFUSED),
+    (Call::ReadScr, OLD_REFUSED),
+    (Call::MoveBack, OLD_REFUSED),
+    (Call::MoveUp, "13 for a record of version 2"),
+    (Call::MoveBack, "15 for X"),
+    (Call::MoveBack, "15 for Y"),
+    (Call::MoveBack, "15 for both"),
+    (Call::Draw, "mode 0 with two scrolls"),
+    (Call::Draw, "mode 1 with two scrolls"),
+    (Call::Draw, "mode 2 with two scrolls"),
+    (Call::Draw, "mode 6 with two scrolls"),
+    (Call::Draw, "LoRes with two scrolls"),
     (Call::ReadScr, "mode 0"),
     (Call::ReadScr, "mode 0 with colours"),
     (Call::ReadScr, "mode 2"),
@@ -70,6 +95,9 @@ const SCREENS: [(Call, &str); 22] = [
     (Call::WriteScr, "14 for mode 1"),
     (Call::WriteScr, "14 for no mode"),
 ];
+
+const OLD: &str = "an old record";
+const OLD_REFUSED: &str = "13 for an old record";
 
 /// The form of a file that was read or written, by its length.
 fn form(length: usize) -> &'static str {
@@ -131,7 +159,7 @@ fn drawable(mode: Mode, tiles: Tiles) -> bool {
 pub struct Seen {
     replies: BTreeMap<(Call, u8), u64>,
     lines: BTreeMap<(Mode, Colouring, Tiles), u64>,
-    screens: BTreeMap<(Call, &'static str), u64>,
+    kinds: BTreeMap<(Call, &'static str), u64>,
 }
 
 impl Seen {
@@ -139,26 +167,63 @@ impl Seen {
         *self.replies.entry((call, reply)).or_default() += 1;
     }
 
+    /// The reply of a call that was lent a record.
+    pub fn lent(&mut self, call: Call, record: &[u8], reply: u8) {
+        self.reply(call, reply);
+        if read_old(record).0 != DONE {
+            return;
+        }
+        match reply {
+            DONE => self.kind(call, OLD),
+            NOT_A_RECORD => self.kind(call, OLD_REFUSED),
+            _ => {}
+        }
+    }
+
+    /// A record of version 2 that was not moved up for its version, or not moved back for its pairs.
+    pub fn unmoved(&mut self, call: Call, state: &State) {
+        let pairs = (state.ula_x == state.lores_x, state.ula_y == state.lores_y);
+        let what = match (call, pairs) {
+            (Call::MoveUp, _) => "13 for a record of version 2",
+            (_, (false, true)) => "15 for X",
+            (_, (true, false)) => "15 for Y",
+            _ => "15 for both",
+        };
+        self.kind(call, what);
+    }
+
     /// A line that was drawn.
     pub fn line(&mut self, state: &State) {
         let kind = (ula_mode(state), colouring(state), tiles(state));
         *self.lines.entry(kind).or_default() += 1;
+        if (state.ula_x, state.ula_y) == (state.lores_x, state.lores_y) {
+            return;
+        }
+        let what = match kind.0 {
+            Mode::Zero => "mode 0 with two scrolls",
+            Mode::One => "mode 1 with two scrolls",
+            Mode::Two => "mode 2 with two scrolls",
+            Mode::Six => "mode 6 with two scrolls",
+            Mode::Lores => "LoRes with two scrolls",
+            Mode::Off | Mode::NoMode => return,
+        };
+        self.kind(Call::Draw, what);
     }
 
-    fn screen(&mut self, call: Call, what: &'static str) {
-        *self.screens.entry((call, what)).or_default() += 1;
+    fn kind(&mut self, call: Call, what: &'static str) {
+        *self.kinds.entry((call, what)).or_default() += 1;
     }
 
     /// A file of so many bytes that was read, and the state before.
     pub fn screen_read(&mut self, state: &State, length: usize) {
-        self.screen(Call::ReadScr, form(length));
+        self.kind(Call::ReadScr, form(length));
         for (so, what) in [
             (state.lores(), "LoRes was on"),
             (state.ulanext(), "ULANext was on"),
             (state.held, "a half was held"),
         ] {
             if so {
-                self.screen(Call::ReadScr, what);
+                self.kind(Call::ReadScr, what);
             }
         }
     }
@@ -169,17 +234,17 @@ impl Seen {
             "no form" => "14 for its length",
             _ => "14 for its port byte",
         };
-        self.screen(Call::ReadScr, what);
+        self.kind(Call::ReadScr, what);
     }
 
     /// A file of so many bytes that was written of a state.
     pub fn screen_written(&mut self, state: &State, length: usize) {
-        self.screen(Call::WriteScr, form(length));
+        self.kind(Call::WriteScr, form(length));
         if state.ulanext() {
-            self.screen(Call::WriteScr, "ULANext was on");
+            self.kind(Call::WriteScr, "ULANext was on");
         }
         if !state.ula_on() {
-            self.screen(Call::WriteScr, "the ULA was off");
+            self.kind(Call::WriteScr, "the ULA was off");
         }
     }
 
@@ -190,7 +255,7 @@ impl Seen {
             1 => "14 for mode 1",
             _ => "14 for no mode",
         };
-        self.screen(Call::WriteScr, what);
+        self.kind(Call::WriteScr, what);
     }
 
     pub fn add(&mut self, other: &Seen) {
@@ -200,13 +265,13 @@ impl Seen {
         for (&key, count) in &other.lines {
             *self.lines.entry(key).or_default() += count;
         }
-        for (&key, count) in &other.screens {
-            *self.screens.entry(key).or_default() += count;
+        for (&key, count) in &other.kinds {
+            *self.kinds.entry(key).or_default() += count;
         }
     }
 
-    fn screens_of(&self, kind: (Call, &'static str)) -> u64 {
-        self.screens.get(&kind).copied().unwrap_or(0)
+    fn calls_of(&self, kind: (Call, &'static str)) -> u64 {
+        self.kinds.get(&kind).copied().unwrap_or(0)
     }
 
     fn replies_of(&self, call: Call, reply: u8) -> u64 {
@@ -231,8 +296,8 @@ impl Seen {
                 }
             }
         }
-        for (call, what) in SCREENS {
-            if self.screens_of((call, what)) == 0 {
+        for (call, what) in KINDS {
+            if self.calls_of((call, what)) == 0 {
                 missing.push(format!("{call:?}: {what}"));
             }
         }
@@ -258,9 +323,9 @@ impl Seen {
     /// The counts as text.
     pub fn report(&self) -> String {
         let mut text = self.reply_report();
-        for (call, what) in SCREENS {
-            let screens = self.screens_of((call, what));
-            let _ = writeln!(text, "{call:?}, {what}: {screens} files");
+        for (call, what) in KINDS {
+            let calls = self.calls_of((call, what));
+            let _ = writeln!(text, "{call:?}, {what}: {calls} calls");
         }
         for (mode, name) in MODES {
             let lines = self.lines_where(|m, _, _| m == mode);

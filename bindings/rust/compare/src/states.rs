@@ -1,7 +1,7 @@
 //! States made lawful by construction, their records, and records damaged.
 
 use crate::random::Random;
-use model::{State, RECORD_LENGTH};
+use model::{State, OLD_RECORD_LENGTH, RECORD_LENGTH};
 
 /// The record of a lawful state.
 pub fn record_of(state: &State) -> Vec<u8> {
@@ -9,6 +9,25 @@ pub fn record_of(state: &State) -> Vec<u8> {
     let reply = model::write_record(state, &mut record);
     assert_eq!(reply, 0, "the state is not lawful");
     record
+}
+
+/// The old record of a lawful state, which has no place for $26 and $27.
+pub fn old_record_of(state: &State) -> Vec<u8> {
+    let mut one_scroll = state.clone();
+    (one_scroll.ula_x, one_scroll.ula_y) = (state.lores_x, state.lores_y);
+    let mut old = vec![0; OLD_RECORD_LENGTH];
+    let reply = model::move_back(&record_of(&one_scroll), &mut old);
+    assert_eq!(reply, 0, "the state is not lawful");
+    old
+}
+
+/// Its record, or one time in three the old one.
+pub fn any_record_of(random: &mut Random, state: &State) -> Vec<u8> {
+    if random.one_in(3) {
+        old_record_of(state)
+    } else {
+        record_of(state)
+    }
 }
 
 /// A lawful state with every field at random.
@@ -48,13 +67,25 @@ fn ula_fields(random: &mut Random, state: &mut State) {
     state.layers = random.byte();
     state.timex = random.byte();
     state.border = random.below(8) as u8;
-    let any = random.byte();
-    state.ula_x = random.pick(&[0, 7, 8, 255, any, any]);
-    let any = random.below(192) as u8;
-    state.ula_y = random.pick(&[0, 1, 191, any, any]);
+    scrolls(random, state);
     state.ink_mask = random.pick(&[1, 3, 7, 15, 31, 63, 127, 255]);
     state.ula_control = random.byte() & 0xC1;
     state.ula_clip = clip(random, [0, 255, 0, 191]);
+}
+
+/// Two scrolls, of which either offset is the same in both every second time.
+fn scrolls(random: &mut Random, state: &mut State) {
+    (state.ula_x, state.ula_y) = offsets(random);
+    let (x, y) = offsets(random);
+    state.lores_x = random.pick(&[x, state.ula_x]);
+    state.lores_y = random.pick(&[y, state.ula_y]);
+}
+
+fn offsets(random: &mut Random) -> (u8, u8) {
+    let (x, y) = (random.byte(), random.below(192) as u8);
+    let x = random.pick(&[0, 7, 8, 255, x, x]);
+    let y = random.pick(&[0, 1, 191, y, y]);
+    (x, y)
 }
 
 fn tile_fields(random: &mut Random, state: &mut State) {
@@ -185,28 +216,40 @@ pub fn value(random: &mut Random) -> u8 {
     }
 }
 
-/// Damages the record of a lawful state. What comes out may still be one.
+/// The bytes of the palettes, which end a record.
+pub const PALETTES: usize = 2_048;
+
+/// How far from a record's end the held flag stands, in either version.
+const HELD: usize = 2_119;
+
+/// Damages the record of a lawful state, of either version. What comes out may still be one.
 pub fn damage(random: &mut Random, record: &mut Vec<u8>) {
-    match random.below(12) {
+    let length = record.len();
+    match random.below(13) {
         0..=4 => spoil_byte(random, record),
         5 => {
-            let place = random.below(record.len() as u64) as usize;
+            let place = random.below(length as u64) as usize;
             record[place] ^= 1 << random.below(8);
         }
         6 => {
             // A half that none holds.
-            record[31] = 0;
-            record[32] = 1 + random.below(255) as u8;
+            record[length - HELD] = 0;
+            record[length - HELD + 1] = 1 + random.below(255) as u8;
         }
-        7 => record.truncate(random.below(2_150) as usize),
+        7 => record.truncate(random.below(length as u64) as usize),
         8 => {
-            let more = random.pick(&[1, 2, 3, 64, 2_150]);
+            let more = random.pick(&[1, 2, 3, 64, length]);
             record.extend(random.bytes(more));
         }
-        9 => *record = random.bytes(RECORD_LENGTH),
+        9 => *record = random.bytes(length),
         10 => {
-            let rest = random.bytes(RECORD_LENGTH - 3);
+            let rest = random.bytes(length - 3);
             record[3..].copy_from_slice(&rest);
+        }
+        11 => {
+            // The start of a version, or the version of one and the number of the other.
+            let starts = [[8, 100, 1], [8, 102, 2], [8, 100, 2], [8, 102, 1]];
+            record[..3].copy_from_slice(&random.pick(&starts));
         }
         _ => {
             for _ in 0..random.below(5) {
@@ -219,9 +262,9 @@ pub fn damage(random: &mut Random, record: &mut Vec<u8>) {
 /// Another byte in one place, mostly among the first, which have the most bounds, or in the high half of a colour.
 fn spoil_byte(random: &mut Random, record: &mut [u8]) {
     let place = match random.below(4) {
-        0 | 1 => random.below(40) as usize,
-        2 => 102 + 2 * random.below(1_024) as usize,
-        _ => random.below(2_150) as usize,
+        0 | 1 => random.below(42) as usize,
+        2 => record.len() - PALETTES + 2 * random.below(1_024) as usize,
+        _ => random.below(record.len() as u64) as usize,
     };
     record[place] = random.byte();
 }

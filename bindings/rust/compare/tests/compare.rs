@@ -96,13 +96,13 @@ fn every_call_against_the_model() {
     assert!(missing.is_empty(), "never reached: {}", missing.join("; "));
 }
 
-/// 47 replies, 22 kinds of screen file and 138 kinds of line are asked for.
+/// 54 replies, 41 kinds of call and 138 kinds of line are asked for.
 #[test]
 fn what_is_not_reached_is_missed() {
-    assert_eq!(Seen::default().missing().len(), 47 + 22 + 138);
+    assert_eq!(Seen::default().missing().len(), 54 + 41 + 138);
 }
 
-/// The preview's sample: its record, its ULA bank and its tile bank, in the folder `sample`.
+/// The preview's sample: its record, which is an old one, its ULA bank and its tile bank, in the folder `sample`.
 fn sample(part: &str) -> Vec<u8> {
     let path = PathBuf::from(env!("CARGO_MANIFEST_DIR"))
         .join("sample")
@@ -119,24 +119,40 @@ fn stored_sums() -> Vec<String> {
     text.lines().map(str::to_string).collect()
 }
 
-/// Model and library draw the sample alike, and as the preview does.
-#[test]
-fn the_previews_sample() {
-    let (record, ula, tile) = (sample("record"), sample("ula"), sample("tile"));
-    let sums = stored_sums();
-    let (reply, state) = model::read_record(&record);
+/// The sums of the sample's lines. Model and library draw them alike, by an old record and by it moved up.
+fn drawn_alike(record: &[u8]) -> Vec<String> {
+    let (ula, tile) = (sample("ula"), sample("tile"));
+    let (reply, state) = model::read_record(record);
     assert_eq!(reply, 0, "the sample's record");
-    assert_eq!(sums.len(), 256, "a sum for each line");
+    let moved = narephon::move_up(record).expect("an old record");
+    let mut sums = Vec::new();
     for line in 0..256 {
         let mut wanted = [0xAAAA; model::DOTS];
         let mut dots = wanted;
         let reply = model::draw(line, &ula, &tile, &state, &mut wanted);
         assert_eq!(reply, 0, "the model's reply to line {line}");
-        let answer = narephon::draw(&record, &ula, &tile, line, &mut dots);
-        assert_eq!(answer, Ok(()), "line {line}");
-        assert!(dots == wanted, "line {line} differs");
-        let sum = format!("{:08x}", model::sums::dots_sum(&dots));
-        assert_eq!(sum, sums[line as usize], "the stored sum of line {line}");
+        for record in [record, &moved] {
+            let answer = narephon::draw(record, &ula, &tile, line, &mut dots);
+            assert_eq!(answer, Ok(()), "line {line}");
+            assert!(dots == wanted, "line {line} differs");
+            dots.fill(0xAAAA);
+        }
+        sums.push(format!("{:08x}", model::sums::dots_sum(&wanted)));
     }
-    say("the preview's sample: 256 lines drawn alike");
+    sums
+}
+
+/// The sample as the preview draws it; then scrolled, since its own $32 and $33, which are 0, are what a lost scroll
+/// would be.
+#[test]
+fn the_previews_sample() {
+    let (mut record, stored) = (sample("record"), stored_sums());
+    assert_eq!(stored.len(), 256, "a sum for each line");
+    for (line, sum) in drawn_alike(&record).iter().enumerate() {
+        assert_eq!(*sum, stored[line], "the stored sum of line {line}");
+    }
+    assert_eq!(record[19..21], [0, 0]);
+    record[19..21].copy_from_slice(&[16, 40]);
+    assert_ne!(drawn_alike(&record), stored, "scrolled");
+    say("the preview's sample: 256 lines drawn alike, and scrolled");
 }

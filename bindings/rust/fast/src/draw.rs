@@ -234,9 +234,10 @@ fn ula_line(line: usize, bank: &Bank, state: &State, out: &mut Line) {
         display.fill(CLEAR);
         return;
     }
-    let row = (y + usize::from(state.ula_y)) % 192;
+    let y_offset = if lores { state.lores_y } else { state.ula_y };
+    let row = (y + usize::from(y_offset)) % 192;
     if lores {
-        lores_row(bank, row, usize::from(state.ula_x), &colours, display);
+        lores_row(bank, row, usize::from(state.lores_x), &colours, display);
     } else if high {
         high_row(bank, row, state.ula_x, colours.pair(attribute), display);
     } else {

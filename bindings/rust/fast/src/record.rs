@@ -2,8 +2,12 @@
 
 use crate::state::{lawful, State};
 
-/// The bytes of a record.
-pub const RECORD_LENGTH: usize = 2_150;
+/// The bytes of a record, and of one of version 1.
+pub const RECORD_LENGTH: usize = 2_152;
+pub const OLD_RECORD_LENGTH: usize = 2_150;
+
+/// The bytes from the clips on, which are the same in both versions.
+const REST: usize = 2_129;
 
 /// Writes the record of a state; a refusal leaves the target.
 pub fn write_record(state: &State, target: &mut [u8]) -> u8 {
@@ -13,8 +17,8 @@ pub fn write_record(state: &State, target: &mut [u8]) -> u8 {
     if !lawful(state) {
         return 4;
     }
-    target[..3].copy_from_slice(&[8, 100, 1]);
-    target[3..21].copy_from_slice(&[
+    target[..3].copy_from_slice(&[8, 102, 2]);
+    target[3..23].copy_from_slice(&[
         state.transparent,
         state.layers,
         state.peripheral,
@@ -31,6 +35,8 @@ pub fn write_record(state: &State, target: &mut [u8]) -> u8 {
         state.tile_y,
         state.map_base,
         state.definition_base,
+        state.lores_x,
+        state.lores_y,
         state.ula_x,
         state.ula_y,
     ]);
@@ -40,9 +46,9 @@ pub fn write_record(state: &State, target: &mut [u8]) -> u8 {
 
 /// From the clips on.
 fn write_rest(state: &State, target: &mut [u8; RECORD_LENGTH]) {
-    target[21..25].copy_from_slice(&state.ula_clip);
-    target[25..29].copy_from_slice(&state.tile_clip);
-    target[29..38].copy_from_slice(&[
+    target[23..27].copy_from_slice(&state.ula_clip);
+    target[27..31].copy_from_slice(&state.tile_clip);
+    target[31..40].copy_from_slice(&[
         state.ula_turn,
         state.tile_turn,
         u8::from(state.held),
@@ -53,24 +59,36 @@ fn write_rest(state: &State, target: &mut [u8; RECORD_LENGTH]) {
         u8::from(state.plus_on),
         state.frame,
     ]);
-    target[38..102].copy_from_slice(&state.plus);
+    target[40..104].copy_from_slice(&state.plus);
     let colours = state.palettes.as_flattened();
-    for (bytes, colour) in target[102..].chunks_exact_mut(2).zip(colours) {
+    for (bytes, colour) in target[104..].chunks_exact_mut(2).zip(colours) {
         bytes.copy_from_slice(&colour.to_be_bytes());
     }
 }
 
-/// Reads a record: 0 and its state, or 13 and the reset state.
+/// Reads a record of either version: 0 and its state, or 13 and the reset state.
 pub fn read_record(bytes: &[u8]) -> (u8, State) {
-    if let Ok(bytes) = <&[u8; RECORD_LENGTH]>::try_from(bytes) {
-        if bytes[..3] == [8, 100, 1] && bytes[31] < 2 && bytes[36] < 2 {
-            let state = parse(bytes);
+    if let Some((registers, scroll, rest)) = parts(bytes) {
+        if rest[10] < 2 && rest[15] < 2 {
+            let state = parse(registers, scroll, rest);
             if lawful(&state) {
                 return (0, state);
             }
         }
     }
     (13, State::reset())
+}
+
+/// The registers up to $33, the place of $26 and $27, and the rest. An old
+/// record has $32 and $33 in that place (7.5).
+fn parts(bytes: &[u8]) -> Option<(&[u8; 18], [u8; 2], &[u8; REST])> {
+    let place = match (bytes.len(), bytes.first_chunk()?) {
+        (RECORD_LENGTH, [8, 102, 2]) => 21,
+        (OLD_RECORD_LENGTH, [8, 100, 1]) => 19,
+        _ => return None,
+    };
+    let scroll = [bytes[place], bytes[place + 1]];
+    Some((bytes[3..].first_chunk()?, scroll, bytes.last_chunk()?))
 }
 
 /// The four palettes.
@@ -83,40 +101,42 @@ fn parse_palettes(bytes: &[u8]) -> [[u16; 256]; 4] {
     palettes
 }
 
-fn parse(bytes: &[u8; RECORD_LENGTH]) -> State {
+fn parse(registers: &[u8; 18], scroll: [u8; 2], rest: &[u8; REST]) -> State {
     let mut plus = [0; 64];
-    plus.copy_from_slice(&bytes[38..102]);
+    plus.copy_from_slice(&rest[17..81]);
     State {
-        transparent: bytes[3],
-        layers: bytes[4],
-        peripheral: bytes[5],
-        palette_control: bytes[6],
-        palette_index: bytes[7],
-        ink_mask: bytes[8],
-        fallback: bytes[9],
-        tile_transparent: bytes[10],
-        ula_control: bytes[11],
-        tile_control: bytes[12],
-        tile_attribute: bytes[13],
-        tile_x_high: bytes[14],
-        tile_x_low: bytes[15],
-        tile_y: bytes[16],
-        map_base: bytes[17],
-        definition_base: bytes[18],
-        ula_x: bytes[19],
-        ula_y: bytes[20],
-        ula_clip: [bytes[21], bytes[22], bytes[23], bytes[24]],
-        tile_clip: [bytes[25], bytes[26], bytes[27], bytes[28]],
-        ula_turn: bytes[29],
-        tile_turn: bytes[30],
-        held: bytes[31] == 1,
-        half: bytes[32],
-        border: bytes[33],
-        timex: bytes[34],
-        select: bytes[35],
-        plus_on: bytes[36] == 1,
-        frame: bytes[37],
+        transparent: registers[0],
+        layers: registers[1],
+        peripheral: registers[2],
+        palette_control: registers[3],
+        palette_index: registers[4],
+        ink_mask: registers[5],
+        fallback: registers[6],
+        tile_transparent: registers[7],
+        ula_control: registers[8],
+        tile_control: registers[9],
+        tile_attribute: registers[10],
+        tile_x_high: registers[11],
+        tile_x_low: registers[12],
+        tile_y: registers[13],
+        map_base: registers[14],
+        definition_base: registers[15],
+        lores_x: registers[16],
+        lores_y: registers[17],
+        ula_x: scroll[0],
+        ula_y: scroll[1],
+        ula_clip: [rest[0], rest[1], rest[2], rest[3]],
+        tile_clip: [rest[4], rest[5], rest[6], rest[7]],
+        ula_turn: rest[8],
+        tile_turn: rest[9],
+        held: rest[10] == 1,
+        half: rest[11],
+        border: rest[12],
+        timex: rest[13],
+        select: rest[14],
+        plus_on: rest[15] == 1,
+        frame: rest[16],
         plus,
-        palettes: parse_palettes(&bytes[102..]),
+        palettes: parse_palettes(&rest[81..]),
     }
 }

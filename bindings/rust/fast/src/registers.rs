@@ -14,9 +14,10 @@ pub fn write_register(state: &mut State, number: u8, value: u8) -> u8 {
         0x15 => state.layers = value,
         0x1A => write_clip(&mut state.ula_clip, &mut state.ula_turn, value),
         0x1B => write_clip(&mut state.tile_clip, &mut state.tile_turn, value),
+        0x26 => state.ula_x = value,
         0x30 => state.tile_x_low = value,
         0x31 => state.tile_y = value,
-        0x32 => state.ula_x = value,
+        0x32 => state.lores_x = value,
         0x40 => {
             drop_half(state);
             state.palette_index = value;
@@ -43,8 +44,9 @@ fn write_bounded(state: &mut State, number: u8, value: u8) -> u8 {
                 state.ula_turn = 0;
             }
         }
+        0x27 if value < 192 => state.ula_y = value,
         0x2F if value < 4 => state.tile_x_high = value,
-        0x33 if value < 192 => state.ula_y = value,
+        0x33 if value < 192 => state.lores_y = value,
         0x42 if solid(value) => state.ink_mask = value,
         0x43 if palette_written(value) < 4 => {
             drop_half(state);
@@ -53,7 +55,7 @@ fn write_bounded(state: &mut State, number: u8, value: u8) -> u8 {
         0x4C if value < 16 => state.tile_transparent = value,
         0x68 if value & 0x3E == 0 => state.ula_control = value,
         0x6B if value & 0x0F == 0 => state.tile_control = value,
-        0x1C | 0x2F | 0x33 | 0x42 | 0x43 | 0x4C | 0x68 | 0x6B => return 10,
+        0x1C | 0x27 | 0x2F | 0x33 | 0x42 | 0x43 | 0x4C | 0x68 | 0x6B => return 10,
         _ => return 9,
     }
     0

@@ -25,10 +25,14 @@ pub struct State {
     pub tile_x_low: u8,
     /// $31.
     pub tile_y: u8,
-    /// $32.
+    /// $26.
     pub ula_x: u8,
-    /// $33.
+    /// $27.
     pub ula_y: u8,
+    /// $32.
+    pub lores_x: u8,
+    /// $33.
+    pub lores_y: u8,
     /// $40.
     pub palette_index: u8,
     /// $42.
@@ -85,6 +89,8 @@ impl State {
             tile_y: 0,
             ula_x: 0,
             ula_y: 0,
+            lores_x: 0,
+            lores_y: 0,
             palette_index: 0,
             ink_mask: 15,
             palette_control: 0,
@@ -127,6 +133,7 @@ pub(crate) fn palette_written(control: u8) -> usize {
 /// Rule 3.31: does every field keep its bounds?
 pub fn lawful(state: &State) -> bool {
     let small = state.ula_y < 192
+        && state.lores_y < 192
         && solid(state.ink_mask)
         && palette_written(state.palette_control) < 4
         && state.tile_transparent < 16

@@ -76,7 +76,7 @@ fn records_written() {
         if random.chance(4) {
             spoil(&mut random, &mut state);
         }
-        let length = random.pick(&[2_150, 2_150, 2_150, 2_149, 2_151, 0]);
+        let length = random.pick(&[2_152, 2_152, 2_152, 2_150, 2_151, 2_153, 0]);
         let mut expected = vec![0xAA; length];
         let mut written = expected.clone();
         let reply = model::write_record(&state, &mut expected);
@@ -85,27 +85,41 @@ fn records_written() {
     }
 }
 
+fn record_of(state: &model::State) -> Vec<u8> {
+    let mut record = vec![0; fast::RECORD_LENGTH];
+    assert_eq!(model::write_record(state, &mut record), 0);
+    record
+}
+
+/// The old record of a state, which has no place for $26 and $27.
+fn old_record_of(state: &model::State) -> Vec<u8> {
+    let mut one_scroll = state.clone();
+    (one_scroll.ula_x, one_scroll.ula_y) = (state.lores_x, state.lores_y);
+    let mut old = vec![0; fast::OLD_RECORD_LENGTH];
+    assert_eq!(model::move_back(&record_of(&one_scroll), &mut old), 0);
+    old
+}
+
 #[test]
 fn records_read() {
     let mut random = Random::new(15);
-    let mut seen = [0; 14];
-    for round in 0..3_000 {
-        let mut bytes = vec![0; 2_150];
-        assert_eq!(
-            model::write_record(&lawful_state(&mut random), &mut bytes),
-            0
-        );
+    let mut seen = [[0; 14]; 2];
+    for round in 0..6_000 {
+        let old = round % 2;
+        let mut bytes = [record_of, old_record_of][old](&lawful_state(&mut random));
         if round % 3 != 0 {
             // Mostly among the first bytes, which have the most bounds.
-            let bound = random.pick(&[40, 2_150]);
+            let bound = random.pick(&[42, 2_150]);
             bytes[random.below(bound) as usize] = random.byte();
         }
         if random.chance(10) {
-            bytes.resize(random.pick(&[0, 2, 2_149, 2_151]), 0);
+            bytes.resize(random.pick(&[0, 2, 2_149, 2_150, 2_151, 2_152]), 0);
         }
         let (reply, state) = model::read_record(&bytes);
         assert_eq!(fast::read_record(&bytes), (reply, quick(&state)));
-        seen[usize::from(reply)] += 1;
+        seen[old][usize::from(reply)] += 1;
     }
-    assert!(seen[0] > 500 && seen[13] > 500);
+    for seen in seen {
+        assert!(seen[0] > 500 && seen[13] > 500);
+    }
 }

@@ -3,8 +3,9 @@
 //!
 //! It is written from document 01, the scope paper, alone (with the tilemap
 //! page where that paper leaves bits to it) and not from the Rattle code; screen
-//! files are from their request and the page on ULAplus. The comments cite the
-//! rules by the numbers that docs/RULES.md gives them. A request that comes
+//! files are from their request and the page on ULAplus, the second scroll and
+//! the second version of a record from theirs. The comments cite the rules by
+//! the numbers that docs/RULES.md gives them. A request that comes
 //! later extends the model from its paper alone, before the code is looked at.
 //!
 //! Every rule is worked out for one dot, one cell or one register at a time;
@@ -25,7 +26,10 @@ pub mod ula;
 pub use colour::{plus_colour, screen_value, widen};
 pub use drawing::draw;
 pub use packing::{draws, draws_at, fewest, pack};
-pub use record::{read_record, write_record, RECORD_LENGTH};
+pub use record::{
+    move_back, move_up, read_new, read_old, read_record, write_record, OLD_RECORD_LENGTH,
+    RECORD_LENGTH,
+};
 pub use registers::{read_port, read_register, write_port, write_register};
 pub use reply::Reply;
 pub use scr::{read_scr, write_scr, SCREEN_LENGTH};

@@ -1,18 +1,43 @@
-//! The stored record: section 7.
+//! The stored record in both of its versions: section 7.
 
-use crate::reply::{Reply, DONE, NOT_A_RECORD, NOT_LAWFUL, WRONG_BUFFER};
+use crate::reply::{Reply, DONE, NOT_A_RECORD, NOT_LAWFUL, PAIRS_DIFFER, WRONG_BUFFER};
 use crate::state::{lawful, State};
 
-/// Rule 7.4: the bytes of a record.
-pub const RECORD_LENGTH: usize = 2_150;
+/// Rule 7.4: the bytes of a record, which is one of version 2.
+pub const RECORD_LENGTH: usize = 2_152;
 
-/// Rule 7.1: what the first two bytes say.
-pub const FOLLOWING: u16 = 2_148;
+/// Rule 7.4: the bytes of a record of version 1.
+pub const OLD_RECORD_LENGTH: usize = 2_150;
 
-/// Rule 7.1: the version.
-pub const VERSION: u8 = 1;
+/// Rule 7.1: the versions.
+#[derive(Clone, Copy, Debug, PartialEq, Eq)]
+enum Version {
+    One,
+    Two,
+}
 
-/// Rules 7.6 and 10.6: writes a record, or refuses by 3, 4 in this order.
+impl Version {
+    /// Rule 7.1: the three bytes that a record starts with, the number of those
+    /// that follow the first two and then the version.
+    fn start(self) -> [u8; 3] {
+        let (following, number): (u16, u8) = match self {
+            Version::One => (2_148, 1),
+            Version::Two => (2_150, 2),
+        };
+        let [high, low] = following.to_be_bytes();
+        [high, low, number]
+    }
+
+    fn length(self) -> usize {
+        match self {
+            Version::One => OLD_RECORD_LENGTH,
+            Version::Two => RECORD_LENGTH,
+        }
+    }
+}
+
+/// Rules 7.6 and 10.6: writes a record, of version 2 always, or refuses by 3, 4
+/// in this order.
 pub fn write_record(state: &State, target: &mut [u8]) -> Reply {
     if target.len() != RECORD_LENGTH {
         return WRONG_BUFFER;
@@ -20,16 +45,18 @@ pub fn write_record(state: &State, target: &mut [u8]) -> Reply {
     if !lawful(state) {
         return NOT_LAWFUL;
     }
-    target.copy_from_slice(&record_bytes(state));
+    target.copy_from_slice(&record_bytes(state, Version::Two));
     DONE
 }
 
 /// Rules 7.1 to 7.3: the bytes of the record in their order.
-fn record_bytes(state: &State) -> Vec<u8> {
+fn record_bytes(state: &State, version: Version) -> Vec<u8> {
     let mut bytes = Vec::new();
-    bytes.extend(FOLLOWING.to_be_bytes());
-    bytes.push(VERSION);
+    bytes.extend(version.start());
     bytes.extend(register_bytes(state));
+    if version == Version::Two {
+        bytes.extend([state.ula_x, state.ula_y]);
+    }
     bytes.extend(state.ula_clip);
     bytes.extend(state.tile_clip);
     bytes.extend([
@@ -51,7 +78,7 @@ fn record_bytes(state: &State) -> Vec<u8> {
     bytes
 }
 
-/// Rule 7.2: the eighteen registers in their order.
+/// Rule 7.2: the eighteen registers that both versions have, in their order.
 fn register_bytes(state: &State) -> [u8; 18] {
     [
         state.transparent,
@@ -70,45 +97,97 @@ fn register_bytes(state: &State) -> [u8; 18] {
         state.tile_y,
         state.map_base,
         state.definition_base,
-        state.ula_x,
-        state.ula_y,
+        state.lores_x,
+        state.lores_y,
     ]
 }
 
-/// Rules 7.5, 9.13 and 10.7: the state of a record, or 13 and the reset state.
+/// Rules 7.5, 9.13 and 10.7: the state of a record of either version, or 13 and
+/// the reset state.
 pub fn read_record(bytes: &[u8]) -> (Reply, State) {
-    match parse(bytes) {
+    read_as(bytes, &[Version::One, Version::Two])
+}
+
+/// Rule 7.9: the same of version 1 alone.
+pub fn read_old(bytes: &[u8]) -> (Reply, State) {
+    read_as(bytes, &[Version::One])
+}
+
+/// Rule 7.10: the same of version 2 alone, as a call that changes a record does.
+pub fn read_new(bytes: &[u8]) -> (Reply, State) {
+    read_as(bytes, &[Version::Two])
+}
+
+fn read_as(bytes: &[u8], taken: &[Version]) -> (Reply, State) {
+    let mut states = taken.iter().filter_map(|&version| parse(bytes, version));
+    match states.next() {
         Some(state) if lawful(&state) => (DONE, state),
         _ => (NOT_A_RECORD, State::reset()),
     }
 }
 
-/// The state of well-formed bytes, lawful or not.
-fn parse(bytes: &[u8]) -> Option<State> {
-    if bytes.len() != RECORD_LENGTH {
-        return None;
+/// Rules 7.7 and 10.12: the record of version 2 of the state in a record of
+/// version 1, or 3, 13 in this order.
+pub fn move_up(old: &[u8], target: &mut [u8]) -> Reply {
+    if target.len() != RECORD_LENGTH {
+        return WRONG_BUFFER;
     }
-    if bytes[0..2] != FOLLOWING.to_be_bytes() || bytes[2] != VERSION {
+    let (known, state) = read_old(old);
+    if known != DONE {
+        return known;
+    }
+    target.copy_from_slice(&record_bytes(&state, Version::Two));
+    DONE
+}
+
+/// Rules 7.8 and 10.12: the record of version 1 of the state in a record of
+/// version 2, or 3, 13, 15 in this order.
+pub fn move_back(new: &[u8], target: &mut [u8]) -> Reply {
+    if target.len() != OLD_RECORD_LENGTH {
+        return WRONG_BUFFER;
+    }
+    let (known, state) = read_new(new);
+    if known != DONE {
+        return known;
+    }
+    if state.ula_x != state.lores_x || state.ula_y != state.lores_y {
+        return PAIRS_DIFFER;
+    }
+    target.copy_from_slice(&record_bytes(&state, Version::One));
+    DONE
+}
+
+/// Rules 1.5 and 7.11: is what these bytes are read as written as the same
+/// bytes, those of an old record once it is moved back?
+pub fn writes_back(bytes: &[u8]) -> bool {
+    let (known, state) = read_record(bytes);
+    let mut written = vec![0; RECORD_LENGTH];
+    if known != DONE || write_record(&state, &mut written) != DONE {
+        return false;
+    }
+    if read_old(bytes).0 != DONE {
+        return written == bytes;
+    }
+    let mut back = vec![0; OLD_RECORD_LENGTH];
+    move_back(&written, &mut back) == DONE && back == bytes
+}
+
+/// The state of well-formed bytes of a version, lawful or not.
+fn parse(bytes: &[u8], version: Version) -> Option<State> {
+    if bytes.len() != version.length() || bytes[..3] != version.start() {
         return None;
     }
     let mut state = State::reset();
     parse_registers(&bytes[3..21], &mut state);
-    state.ula_clip.copy_from_slice(&bytes[21..25]);
-    state.tile_clip.copy_from_slice(&bytes[25..29]);
-    state.ula_turn = bytes[29];
-    state.tile_turn = bytes[30];
-    state.held = parse_flag(bytes[31])?;
-    state.half = bytes[32];
-    state.border = bytes[33];
-    state.timex = bytes[34];
-    state.select = bytes[35];
-    state.plus_on = parse_flag(bytes[36])?;
-    state.frame = bytes[37];
-    state.plus.copy_from_slice(&bytes[38..102]);
-    for (palette, colours) in state.palettes.iter_mut().enumerate() {
-        for (index, colour) in colours.iter_mut().enumerate() {
-            let place = 102 + (palette * 256 + index) * 2;
-            *colour = u16::from_be_bytes([bytes[place], bytes[place + 1]]);
+    match version {
+        // 7.5: as if the record were moved up.
+        Version::One => {
+            (state.ula_x, state.ula_y) = (state.lores_x, state.lores_y);
+            parse_rest(&bytes[21..], &mut state)?;
+        }
+        Version::Two => {
+            (state.ula_x, state.ula_y) = (bytes[21], bytes[22]);
+            parse_rest(&bytes[23..], &mut state)?;
         }
     }
     Some(state)
@@ -132,8 +211,32 @@ fn parse_registers(bytes: &[u8], state: &mut State) {
     state.tile_y = bytes[13];
     state.map_base = bytes[14];
     state.definition_base = bytes[15];
-    state.ula_x = bytes[16];
-    state.ula_y = bytes[17];
+    state.lores_x = bytes[16];
+    state.lores_y = bytes[17];
+}
+
+/// From the clips on, where both versions have the same; none where a byte that
+/// says yes or no says neither.
+fn parse_rest(bytes: &[u8], state: &mut State) -> Option<()> {
+    state.ula_clip.copy_from_slice(&bytes[0..4]);
+    state.tile_clip.copy_from_slice(&bytes[4..8]);
+    state.ula_turn = bytes[8];
+    state.tile_turn = bytes[9];
+    state.held = parse_flag(bytes[10])?;
+    state.half = bytes[11];
+    state.border = bytes[12];
+    state.timex = bytes[13];
+    state.select = bytes[14];
+    state.plus_on = parse_flag(bytes[15])?;
+    state.frame = bytes[16];
+    state.plus.copy_from_slice(&bytes[17..81]);
+    for (palette, colours) in state.palettes.iter_mut().enumerate() {
+        for (index, colour) in colours.iter_mut().enumerate() {
+            let place = 81 + (palette * 256 + index) * 2;
+            *colour = u16::from_be_bytes([bytes[place], bytes[place + 1]]);
+        }
+    }
+    Some(())
 }
 
 /// Rule 7.2: a byte that says yes or no, 1 or 0.

@@ -4,7 +4,7 @@ use crate::colour::widen;
 use crate::reply::{Reply, DONE, NOT_LAWFUL, NO_SUCH_REGISTER, OUT_OF_BOUNDS};
 use crate::state::{
     bit, is_ink_mask, lawful, palette_written, select_in_bounds, tile_control_in_bounds,
-    tile_transparent_in_bounds, tile_x_high_in_bounds, ula_control_in_bounds, ula_y_in_bounds,
+    tile_transparent_in_bounds, tile_x_high_in_bounds, ula_control_in_bounds, y_offset_in_bounds,
     State,
 };
 
@@ -26,6 +26,8 @@ pub fn register_exists(number: u8) -> bool {
             | 0x1A
             | 0x1B
             | 0x1C
+            | 0x26
+            | 0x27
             | 0x2F
             | 0x30
             | 0x31
@@ -67,7 +69,7 @@ fn register_value_in_bounds(state: &State, number: u8, value: u8) -> bool {
         // 3.8: the upper half must be 0.
         0x1C => value / 16 == 0,
         0x2F => tile_x_high_in_bounds(value),
-        0x33 => ula_y_in_bounds(value),
+        0x27 | 0x33 => y_offset_in_bounds(value),
         0x42 => is_ink_mask(value),
         0x43 => palette_written(value).is_some(),
         // 3.12: the second write must be 0 or 1.
@@ -89,11 +91,13 @@ fn after_register_write(state: &State, number: u8, value: u8) -> State {
         0x1A => write_clip(&mut after.ula_clip, &mut after.ula_turn, value),
         0x1B => write_clip(&mut after.tile_clip, &mut after.tile_turn, value),
         0x1C => restart_turns(&mut after, value),
+        0x26 => after.ula_x = value,
+        0x27 => after.ula_y = value,
         0x2F => after.tile_x_high = value,
         0x30 => after.tile_x_low = value,
         0x31 => after.tile_y = value,
-        0x32 => after.ula_x = value,
-        0x33 => after.ula_y = value,
+        0x32 => after.lores_x = value,
+        0x33 => after.lores_y = value,
         0x40..=0x44 => write_palette_register(&mut after, number, value),
         0x4A => after.fallback = value,
         0x4C => after.tile_transparent = value,
@@ -198,11 +202,13 @@ fn register_value(state: &State, number: u8) -> u8 {
         0x1B => state.tile_clip[usize::from(state.tile_turn)],
         // 3.9: both turns in one byte.
         0x1C => state.tile_turn * 64 + state.ula_turn,
+        0x26 => state.ula_x,
+        0x27 => state.ula_y,
         0x2F => state.tile_x_high,
         0x30 => state.tile_x_low,
         0x31 => state.tile_y,
-        0x32 => state.ula_x,
-        0x33 => state.ula_y,
+        0x32 => state.lores_x,
+        0x33 => state.lores_y,
         0x40 => state.palette_index,
         // 3.15, for $44 too: the index stays.
         0x41 => (colour_written(state) / 2) as u8,

@@ -1,6 +1,6 @@
 //! The reply numbers of section 9: rule 9.N says when reply N comes.
 
-/// A reply is a plain number, 0 to 14.
+/// A reply is a plain number, 0 to 15.
 pub type Reply = u8;
 
 /// Rule 9.0: nothing is refused.
@@ -33,3 +33,5 @@ pub const ALLOWED_OR_OFFSET: Reply = 12;
 pub const NOT_A_RECORD: Reply = 13;
 /// Rule 9.14: a file that is no screen, or a mode that no file holds.
 pub const NO_FORM: Reply = 14;
+/// Rule 9.15: a record of two scrolls, where version 1 has one.
+pub const PAIRS_DIFFER: Reply = 15;

@@ -1,6 +1,6 @@
 //! Screen files: section 14.
 
-use crate::record::{read_record, write_record};
+use crate::record::{read_new, read_record, write_record};
 use crate::reply::{Reply, DONE, NOT_LAWFUL, NO_FORM, WRONG_BANK, WRONG_BUFFER};
 use crate::state::{lawful, State};
 use crate::ula::{mode_kept, Mode};
@@ -147,12 +147,13 @@ fn screen_bytes(state: &State, form: Form, bank: &[u8]) -> Vec<u8> {
 }
 
 /// Reading with a record lent for the state: 2, 13, 14 in this order, and the
-/// place of the colours in the file, 0 where there are none.
+/// place of the colours in the file, 0 where there are none. The record is
+/// changed, so one of version 1 is 13 (7.10).
 pub fn lent_read_scr(record: &mut [u8], bank: &mut [u8], file: &[u8]) -> (Reply, u32) {
     if bank.len() != BANK_LENGTH {
         return (WRONG_BANK, 0);
     }
-    let (known, state) = read_record(record);
+    let (known, state) = read_new(record);
     if known != DONE {
         return (known, 0);
     }
@@ -169,8 +170,8 @@ pub fn lent_read_scr(record: &mut [u8], bank: &mut [u8], file: &[u8]) -> (Reply,
     (DONE, place as u32)
 }
 
-/// Writing with a record lent for the state: 2, 3, 13, 14 in this order, and
-/// the length.
+/// Writing with a record lent for the state, of either version: 2, 3, 13, 14 in
+/// this order, and the length.
 pub fn lent_write_scr(record: &[u8], bank: &[u8], target: &mut [u8]) -> (Reply, u32) {
     if bank.len() != BANK_LENGTH {
         return (WRONG_BANK, 0);

@@ -32,10 +32,14 @@ pub struct State {
     pub tile_x_low: u8,
     /// $31: tilemap Y offset.
     pub tile_y: u8,
-    /// $32: ULA and LoRes X offset.
+    /// $26: X offset of the ULA and its Timex modes.
     pub ula_x: u8,
-    /// $33: ULA and LoRes Y offset.
+    /// $27: Y offset of the ULA and its Timex modes.
     pub ula_y: u8,
+    /// $32: LoRes X offset.
+    pub lores_x: u8,
+    /// $33: LoRes Y offset.
+    pub lores_y: u8,
     /// $40: palette index.
     pub palette_index: u8,
     /// $42: ink mask.
@@ -92,6 +96,8 @@ impl State {
             tile_y: 0,
             ula_x: 0,
             ula_y: 0,
+            lores_x: 0,
+            lores_y: 0,
             palette_index: 0,
             ink_mask: 15,
             palette_control: 0,
@@ -187,8 +193,8 @@ pub fn bit(value: u8, number: u32) -> bool {
     (value >> number) % 2 == 1
 }
 
-/// Rule 3.6: the bound of $33.
-pub fn ula_y_in_bounds(value: u8) -> bool {
+/// Rules 3.6 and 3.32: the bound of $33 and of $27.
+pub fn y_offset_in_bounds(value: u8) -> bool {
     value <= 191
 }
 
@@ -233,9 +239,10 @@ pub fn select_in_bounds(value: u8) -> bool {
     value < 128
 }
 
-/// Rule 3.31 for what has its bound in 3.6 to 3.27.
+/// Rule 3.31 for what has its bound in 3.6 to 3.27 or in 3.32.
 fn registers_lawful(state: &State) -> bool {
-    ula_y_in_bounds(state.ula_y)
+    y_offset_in_bounds(state.ula_y)
+        && y_offset_in_bounds(state.lores_y)
         && is_ink_mask(state.ink_mask)
         && palette_written(state.palette_control).is_some()
         && tile_transparent_in_bounds(state.tile_transparent)

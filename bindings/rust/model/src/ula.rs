@@ -98,14 +98,14 @@ pub fn lores_address(row: u32, column: u32) -> u32 {
     }
 }
 
-/// Rule 4.3: x', by $32 in steps of 8.
+/// Rule 4.3: x', by $26 in steps of 8.
 pub fn scrolled_x(x: u32, ula_x: u8) -> u32 {
     (x + u32::from(ula_x / 8 * 8)) % 256
 }
 
-/// Rule 4.3: y' = (y + $33) mod 192.
-pub fn scrolled_y(y: u32, ula_y: u8) -> u32 {
-    (y + u32::from(ula_y)) % 192
+/// Rules 4.3 and 4.11: y', by $27, or by $33 in LoRes.
+pub fn scrolled_y(y: u32, y_offset: u8) -> u32 {
+    (y + u32::from(y_offset)) % 192
 }
 
 /// Rule 4.9: the dot that a dot of mode 6 reads.
@@ -113,9 +113,9 @@ pub fn scrolled_dot(dot: u32, ula_x: u8) -> u32 {
     (dot + 2 * u32::from(ula_x / 8 * 8)) % 512
 }
 
-/// Rule 4.11: x' of LoRes.
-pub fn scrolled_lores_x(x: u32, ula_x: u8) -> u32 {
-    (x + u32::from(ula_x)) % 256
+/// Rule 4.11: x' of LoRes, by all of $32.
+pub fn scrolled_lores_x(x: u32, lores_x: u8) -> u32 {
+    (x + u32::from(lores_x)) % 256
 }
 
 /// Rule 4.10: the attribute of mode 6, in bits 01pppiii.
@@ -315,8 +315,8 @@ fn high_resolution_dot(dot: u32, y: u32, bank: &[u8], state: &State) -> u16 {
 /// Rule 4.12: the colour of display pixel (x, y) in LoRes, whatever the
 /// colouring.
 fn lores_pixel(x: u32, y: u32, bank: &[u8], state: &State) -> u16 {
-    let across = scrolled_lores_x(x, state.ula_x);
-    let row = scrolled_y(y, state.ula_y);
+    let across = scrolled_lores_x(x, state.lores_x);
+    let row = scrolled_y(y, state.lores_y);
     let index = fetch(bank, lores_address(row / 2, across / 2));
     palette_colour(state, index)
 }

@@ -1,5 +1,9 @@
 //! The command line program.
 
+mod common;
+
+use common::{old_record_of, record_of};
+use model::State;
 use std::path::PathBuf;
 use std::process::Command;
 
@@ -38,14 +42,8 @@ fn complaints(words: &[&str], files: &[&PathBuf]) -> usize {
     String::from_utf8(output.stderr).unwrap().lines().count()
 }
 
-fn record_of(state: &model::State) -> Vec<u8> {
-    let mut bytes = vec![0; model::RECORD_LENGTH];
-    assert_eq!(model::write_record(state, &mut bytes), 0);
-    bytes
-}
-
 fn reset_record() -> Vec<u8> {
-    record_of(&model::State::reset())
+    record_of(&State::reset())
 }
 
 #[test]
@@ -79,7 +77,9 @@ fn a_record() {
     let mut bytes = reset_record();
     let good = file("good_record", &bytes);
     assert_eq!(run(&["record"], &[&good]), ("0 same\n".to_string(), true));
-    bytes[2] = 2;
+    let old = file("old_record", &old_record_of(&State::reset()));
+    assert_eq!(run(&["record"], &[&old]), ("0 same\n".to_string(), true));
+    bytes[2] = 1;
     let bad = file("bad_record", &bytes);
     assert_eq!(run(&["record"], &[&bad]), ("13\n".to_string(), true));
 }
@@ -100,7 +100,7 @@ fn lines() {
 /// Blue paper and border, and a red pixel in the corner of the display: two dots of line 32, and the line twice.
 #[test]
 fn a_picture() {
-    let mut state = model::State::reset();
+    let mut state = State::reset();
     state.palettes[0][16] = 7;
     state.palettes[0][0] = 448;
     let mut bytes = [0; 16_384];
@@ -187,7 +187,7 @@ fn a_screen_with_colours() {
 /// the tile bank too.
 #[test]
 fn a_screen_in_a_record() {
-    let mut state = model::State::reset();
+    let mut state = State::reset();
     state.layers = 0x80;
     state.palette_control = 1;
     state.palettes[0][16] = 7;
@@ -216,7 +216,7 @@ fn refused_screens() {
     let odd = file("screen_odd", &[0; 6_913]);
     let mode_2 = file("screen_port", &[2; 12_289]);
     let record = file("screen_reset", &reset_record());
-    let mut state = model::State::reset();
+    let mut state = State::reset();
     state.tile_control = 0x80;
     state.tile_x_high = 3;
     let far = file("screen_far", &record_of(&state));

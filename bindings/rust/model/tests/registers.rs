@@ -4,9 +4,9 @@ use model::{
     lawful, next_frame, read_port, read_register, write_port, write_register, State, RECORD_LENGTH,
 };
 
-const REGISTERS: [u8; 23] = [
-    0x08, 0x14, 0x15, 0x1A, 0x1B, 0x1C, 0x2F, 0x30, 0x31, 0x32, 0x33, 0x40, 0x41, 0x42, 0x43, 0x44,
-    0x4A, 0x4C, 0x68, 0x6B, 0x6C, 0x6E, 0x6F,
+const REGISTERS: [u8; 25] = [
+    0x08, 0x14, 0x15, 0x1A, 0x1B, 0x1C, 0x26, 0x27, 0x2F, 0x30, 0x31, 0x32, 0x33, 0x40, 0x41, 0x42,
+    0x43, 0x44, 0x4A, 0x4C, 0x68, 0x6B, 0x6C, 0x6E, 0x6F,
 ];
 
 /// The state after writes that must all be accepted.
@@ -75,7 +75,7 @@ fn which_values_a_register_takes() {
             let taken = match number {
                 0x1C => byte < 16,
                 0x2F => byte < 4,
-                0x33 => byte < 192,
+                0x27 | 0x33 => byte < 192,
                 0x42 => [1, 3, 7, 15, 31, 63, 127, 255].contains(&byte),
                 0x43 => [0x00, 0x40, 0x30, 0x70].contains(&(byte & 0x70)),
                 0x4C => byte < 16,
@@ -94,8 +94,8 @@ fn which_values_a_register_takes() {
 #[test]
 fn plain_registers_read_what_was_written() {
     for number in [
-        0x08, 0x14, 0x15, 0x30, 0x31, 0x32, 0x40, 0x4A, 0x6C, 0x2F, 0x33, 0x42, 0x43, 0x4C, 0x68,
-        0x6B,
+        0x08, 0x14, 0x15, 0x26, 0x30, 0x31, 0x32, 0x40, 0x4A, 0x6C, 0x27, 0x2F, 0x33, 0x42, 0x43,
+        0x4C, 0x68, 0x6B,
     ] {
         for byte in 0..=255 {
             let (reply, after) = write_register(&State::reset(), number, byte);
@@ -123,6 +123,10 @@ fn each_write_heeds_its_own_register_alone() {
         (0x2F, 3),
         (0x30, 4),
         (0x31, 255),
+        (0x26, 200),
+        (0x27, 191),
+        (0x32, 201),
+        (0x33, 190),
     ]);
     let mut expected = State::reset();
     expected.map_base = 1;
@@ -130,6 +134,8 @@ fn each_write_heeds_its_own_register_alone() {
     expected.tile_x_high = 3;
     expected.tile_x_low = 4;
     expected.tile_y = 255;
+    (expected.ula_x, expected.ula_y) = (200, 191);
+    (expected.lores_x, expected.lores_y) = (201, 190);
     assert_eq!(state, expected);
     assert_eq!(state.tile_x(), 772);
 }
@@ -224,13 +230,21 @@ fn a_held_half() {
     let after = continued(&held, &[(0x41, 0x02)]);
     assert_eq!((after.palettes[0][5], after.palette_index), (5, 6));
     // Other writes keep it, and so does a refused one.
-    for (number, byte) in [(0x42, 7), (0x14, 0), (0x4A, 1), (0x6E, 255)] {
+    for (number, byte) in [
+        (0x42, 7),
+        (0x14, 0),
+        (0x4A, 1),
+        (0x6E, 255),
+        (0x26, 9),
+        (0x27, 9),
+    ] {
         let after = continued(&held, &[(number, byte)]);
         assert_eq!((after.held, after.half), (true, 0x81));
     }
     out_of_bounds(&held, 0x44, 2);
     out_of_bounds(&held, 0x44, 0x81);
     out_of_bounds(&held, 0x43, 0x10);
+    out_of_bounds(&held, 0x27, 192);
     // Reads see the stored colour meanwhile.
     assert_eq!((value(&held, 0x41), value(&held, 0x44)), (0, 0));
 }
@@ -302,8 +316,9 @@ fn frames() {
 
 /// States with one field out of its bounds.
 fn unlawful() -> Vec<State> {
-    let changes: [fn(&mut State); 22] = [
+    let changes: [fn(&mut State); 23] = [
         |s| s.ula_y = 192,
+        |s| s.lores_y = 192,
         |s| s.ink_mask = 0,
         |s| s.ink_mask = 5,
         |s| s.palette_control = 0x10,
@@ -371,8 +386,8 @@ fn the_widest_lawful_state() {
     state.tile_x_high = 3;
     state.tile_x_low = 255;
     state.tile_y = 255;
-    state.ula_x = 255;
-    state.ula_y = 191;
+    (state.ula_x, state.ula_y) = (255, 191);
+    (state.lores_x, state.lores_y) = (255, 191);
     state.palette_index = 255;
     state.ink_mask = 255;
     state.palette_control = 255;

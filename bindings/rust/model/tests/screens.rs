@@ -2,9 +2,9 @@
 
 mod common;
 
-use common::counting;
+use common::{counting, old_record_of, record_of};
 use model::scr::{form_of_file, form_of_state, lent_read_scr, lent_write_scr, Form};
-use model::{lawful, read_record, read_scr, write_record, write_scr, State};
+use model::{lawful, read_record, read_scr, write_scr, State};
 use std::path::Path;
 
 /// The six lengths of the page on ULAplus, with the form and whether it ends
@@ -54,13 +54,6 @@ fn busy() -> State {
     state.border = 5;
     assert!(lawful(&state));
     state
-}
-
-/// The record of a lawful state.
-fn record(state: &State) -> Vec<u8> {
-    let mut bytes = vec![0; 2_150];
-    assert_eq!(write_record(state, &mut bytes), 0);
-    bytes
 }
 
 /// What reading a file makes of [`busy`]: every other field is the same.
@@ -313,8 +306,8 @@ fn what_writing_goes_by() {
         assert_eq!(write_scr(&state, &bank, &mut plain), (0, length));
         state.palette_control = 0x03;
         state.ula_control = 0x80;
-        state.ula_x = 77;
-        state.ula_y = 100;
+        (state.ula_x, state.ula_y) = (77, 100);
+        (state.lores_x, state.lores_y) = (78, 101);
         state.ula_clip = [9, 8, 7, 6];
         state.tile_control = 0x80;
         state.tile_x_high = 3;
@@ -414,7 +407,7 @@ fn the_addresses() {
 fn reading_on_a_record() {
     for (length, form, coloured) in LENGTHS {
         let file = file(length);
-        let (mut record, mut bank) = (record(&busy()), blank());
+        let (mut record, mut bank) = (record_of(&busy()), blank());
         let place = if coloured { length as u32 - 64 } else { 0 };
         assert_eq!(
             lent_read_scr(&mut record, &mut bank, &file),
@@ -425,15 +418,18 @@ fn reading_on_a_record() {
         assert_eq!(read_record(&record), (0, expected));
         assert!(bank == bank_after(form, &file));
     }
-    let mut unlawful = record(&busy());
-    unlawful[33] = 8;
+    let mut unlawful = record_of(&busy());
+    unlawful[35] = 8;
     for (given, length, file_length, reply) in [
-        (&record(&busy()), 16_384, 6_911, 14),
-        (&record(&busy()), 16_383, 6_911, 2),
+        (&record_of(&busy()), 16_384, 6_911, 14),
+        (&record_of(&busy()), 16_383, 6_911, 2),
         (&unlawful, 16_384, 6_911, 13),
         (&unlawful, 16_384, 6_912, 13),
         (&unlawful, 16_385, 6_911, 2),
         (&vec![], 16_384, 6_912, 13),
+        // 7.10: an old record cannot be changed.
+        (&old_record_of(&busy()), 16_384, 6_912, 13),
+        (&old_record_of(&busy()), 16_383, 6_912, 2),
     ] {
         let (mut kept, mut bank) = (given.clone(), vec![0xFF; length]);
         let answer = lent_read_scr(&mut kept, &mut bank, &told(file_length));
@@ -451,18 +447,22 @@ fn writing_on_a_record() {
         let mut target = vec![0; 12_353];
         let mut expected = target.clone();
         write_scr(&state, &bank, &mut expected);
-        let answer = lent_write_scr(&record(&state), &bank, &mut target);
-        assert_eq!(answer, (0, length as u32));
-        assert!(target == expected);
+        // 7.10: of either version.
+        for given in [record_of(&state), old_record_of(&state)] {
+            target.fill(0);
+            let answer = lent_write_scr(&given, &bank, &mut target);
+            assert_eq!(answer, (0, length as u32));
+            assert!(target == expected);
+        }
     }
-    let mut unlawful = record(&busy());
-    unlawful[33] = 8;
+    let mut unlawful = record_of(&busy());
+    unlawful[35] = 8;
     for (given, bank, length, reply) in [
         (&unlawful, &bank[1..], 5, 2),
         (&unlawful, &bank, 5, 3),
         (&unlawful, &bank, 12_353, 13),
         (&vec![], &bank, 12_353, 13),
-        (&record(&busy()), &bank, 12_353, 14),
+        (&record_of(&busy()), &bank, 12_353, 14),
     ] {
         let mut target = vec![0xFF; length];
         let answer = lent_write_scr(given, bank, &mut target);

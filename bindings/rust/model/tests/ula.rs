@@ -2,9 +2,9 @@
 
 mod common;
 
-use common::{bank, counting, timex, ula_dots, FALLBACK};
+use common::{bank, counting, old_record_of, timex, ula_dots, FALLBACK};
 use model::ula::{high_resolution_attribute, next_ink, next_mode_6_border, next_paper};
-use model::{ula_mode, Mode};
+use model::{read_record, ula_mode, Mode};
 
 #[test]
 fn mode_0_shows_bit_7_leftmost() {
@@ -177,6 +177,8 @@ fn mode_6_colours_under_ulaplus() {
 fn an_x_offset_of_13_moves_by_8_pixels() {
     let mut state = counting();
     state.ula_x = 13;
+    // LoRes alone goes by these.
+    (state.lores_x, state.lores_y) = (90, 77);
     // Column 1 comes first; column 0 comes last.
     let ula = bank(&[(1, 0x80), (0, 0x01), (0x1801, 0x05), (0x1800, 0x06)]);
     let dots = ula_dots(32, &ula, &state);
@@ -188,6 +190,7 @@ fn an_x_offset_of_13_moves_by_8_pixels() {
 fn an_x_offset_of_13_moves_mode_6_by_16_dots() {
     let mut state = timex(0x26);
     state.ula_x = 13;
+    (state.lores_x, state.lores_y) = (90, 77);
     let ula = bank(&[(1, 0x80), (0x2000, 0x01)]);
     let dots = ula_dots(32, &ula, &state);
     let inks: Vec<usize> = (0..640).filter(|&dot| dots[dot] == 12).collect();
@@ -199,12 +202,51 @@ fn an_x_offset_of_13_moves_mode_6_by_16_dots() {
 fn the_y_offset_wraps_at_192() {
     let mut state = counting();
     state.ula_y = 191;
+    state.lores_y = 40;
     let ula = bank(&[(0, 0x80), (0x1800, 0x02)]);
     assert_eq!(ula_dots(33, &ula, &state)[64], 2);
     assert_eq!(ula_dots(32, &ula, &state)[64], 16);
     state.ula_y = 65;
     let ula = bank(&[(0x0900, 0x80), (0x1900, 0x03)]);
     assert_eq!(ula_dots(32, &ula, &state)[64], 3);
+}
+
+/// Row 65, column 1 comes to the display's corner in each mode with attributes.
+#[test]
+fn the_timex_modes_scroll_by_26_and_27() {
+    for (mode, bitmap, attribute) in [
+        (0, 0x0901, 0x1901),
+        (1, 0x2901, 0x3901),
+        (2, 0x0901, 0x2901),
+    ] {
+        let mut state = timex(mode);
+        (state.ula_x, state.ula_y) = (13, 65);
+        (state.lores_x, state.lores_y) = (90, 77);
+        let ula = bank(&[(bitmap, 0x80), (attribute, 0x0A)]);
+        let dots = ula_dots(32, &ula, &state);
+        assert_eq!(dots[64..68], [2, 2, 17, 17], "{mode}");
+    }
+}
+
+/// Rule 7.12: an old record scrolls each mode by $32 and $33, here by 13 and 65.
+#[test]
+fn an_old_record_draws_as_it_did() {
+    let drawn = |mut state: model::State, bytes: &[(usize, u8)]| {
+        (state.lores_x, state.lores_y) = (13, 65);
+        // An old record has no place for these.
+        (state.ula_x, state.ula_y) = (200, 100);
+        let (reply, state) = read_record(&old_record_of(&state));
+        assert_eq!(reply, 0);
+        ula_dots(32, &bank(bytes), &state)[64..68].to_vec()
+    };
+    let mode_0 = drawn(counting(), &[(0x0901, 0x80), (0x1901, 0x0A)]);
+    assert_eq!(mode_0, [2, 2, 17, 17]);
+    // Ink 12, paper 27; bit 7 of column 2 of 64 is dot 16.
+    assert_eq!(drawn(timex(0x26), &[(0x0901, 0xA0)]), [12, 27, 12, 27]);
+    // Row 32 of bytes, 4,096 on; pixel 13 is in column 6, pixel 14 in column 7.
+    let mut lores = counting();
+    lores.layers = 0x80;
+    assert_eq!(drawn(lores, &[(4_102, 60), (4_103, 70)]), [60, 60, 70, 70]);
 }
 
 #[test]
@@ -419,8 +461,9 @@ fn lores_addresses_on_the_line() {
 fn lores_scrolls_by_the_whole_offset() {
     let mut state = counting();
     state.layers = 0x80;
-    state.ula_x = 13;
-    state.ula_y = 191;
+    (state.lores_x, state.lores_y) = (13, 191);
+    // LoRes does not go by these.
+    (state.ula_x, state.ula_y) = (90, 77);
     let ula = bank(&[(6, 60), (7, 70), (5, 50)]);
     // y = 1 reads row 0; x = 0 reads pixel 13, the right half of column 6.
     let dots = ula_dots(33, &ula, &state);

@@ -1,5 +1,5 @@
 //! A bot's states, kept by member number. Two members share a nickname; one has sent half a nine-bit colour, the other
-//! sends a byte of her own, and neither reaches the other.
+//! sends a byte of her own, and neither reaches the other. A third has an old record, which is moved up when it is loaded.
 use narephon::Reply;
 use std::collections::HashMap;
 
@@ -8,6 +8,13 @@ struct Bot {
 }
 
 impl Bot {
+    /// Takes over a stored record of either version.
+    fn load(&mut self, member: u16, stored: &[u8]) -> Result<(), Reply> {
+        let record = narephon::load_record(stored)?;
+        self.records.insert(member, record);
+        Ok(())
+    }
+
     fn write(&mut self, member: u16, register: u8, value: u8) -> Result<(), Reply> {
         let record = self.records.entry(member).or_insert_with(narephon::reset);
         narephon::write_register(record, register, value)
@@ -19,11 +26,17 @@ impl Bot {
     }
 }
 
-fn main() -> Result<(), Reply> {
-    let mut bot = Bot {
-        records: HashMap::new(),
-    };
-    // Members 7 and 8 are both called Rufus.
+/// A record as versions before 0.3.0 stored it, of a screen scrolled by 16 and 40.
+fn old_record() -> Result<[u8; narephon::OLD_RECORD], Reply> {
+    let mut record = narephon::reset();
+    for (register, value) in [(0x26, 16), (0x27, 40), (0x32, 16), (0x33, 40)] {
+        narephon::write_register(&mut record, register, value)?;
+    }
+    narephon::move_back(&record)
+}
+
+/// Members 7 and 8 are both called Rufus.
+fn keep_apart(bot: &mut Bot) -> Result<(), Reply> {
     for member in [7, 8] {
         bot.write(member, 0x40, 12)?;
     }
@@ -42,5 +55,21 @@ fn main() -> Result<(), Reply> {
         let low = u16::from(bot.read(member, 0x44)?);
         println!("member {member}: colour {}", high * 2 + low);
     }
+    Ok(())
+}
+
+fn main() -> Result<(), Reply> {
+    let mut bot = Bot {
+        records: HashMap::new(),
+    };
+    keep_apart(&mut bot)?;
+    bot.load(9, &old_record()?)?;
+    // A register that her old record did not have.
+    bot.write(9, 0x26, 24)?;
+    println!(
+        "member 9 scrolls by {} and {}",
+        bot.read(9, 0x26)?,
+        bot.read(9, 0x27)?
+    );
     Ok(())
 }

@@ -5,6 +5,11 @@
 //! hold, the first in the order that a call names is given. The library keeps nothing between calls, so calls may run
 //! side by side in threads.
 //!
+//! Records are made in version 2. One of version 1, which versions before 0.3.0 made, is an old record of [`OLD_RECORD`]
+//! bytes: it lacks registers `0x26` and `0x27`, which scroll the ULA, and its `0x32` and `0x33` stand for them. A call that
+//! only reads a record (`&[u8]`), but for the two moves, takes both versions. One that changes it (`&mut [u8]`) takes
+//! version 2 alone, and an old record is [`Reply::NotRecord`] there: [`load_record`] makes it new.
+//!
 //! ```
 //! let mut record = narephon::reset();
 //! narephon::write_port(&mut record, 0x00FE, 2)?;
@@ -30,7 +35,9 @@ pub use reply::Reply;
 pub const VERSION: &str = env!("CARGO_PKG_VERSION");
 
 /// Bytes of a record.
-pub const RECORD: usize = 2150;
+pub const RECORD: usize = 2152;
+/// Bytes of an old record, one of version 1.
+pub const OLD_RECORD: usize = 2150;
 /// Bytes of a bank.
 pub const BANK: usize = 16384;
 /// Dots of a line.
@@ -54,13 +61,67 @@ pub fn reset() -> [u8; RECORD] {
     record
 }
 
-/// Are these bytes a record of a lawful state? It changes nothing; the other calls judge their record by themselves.
+/// Are these bytes a record of a lawful state, of either version? It changes nothing; the other calls judge their record
+/// by themselves.
 ///
 /// Refused by [`Reply::NotRecord`] for every fault, a wrong length included.
 pub fn check_record(record: &[u8]) -> Result<(), Reply> {
     // SAFETY: as in `reset`.
     let reply = unsafe { raw::narephon_check_record(record.as_ptr(), record.len()) };
     answered(reply, ())
+}
+
+/// An old record moved up: the record of version 2 of its state, `0x26` and `0x27` being its `0x32` and `0x33`, so that
+/// every line is drawn as before.
+///
+/// Refused by 13, for a record of version 2 too.
+pub fn move_up(record: &[u8]) -> Result<[u8; RECORD], Reply> {
+    let mut target = [0; RECORD];
+    // SAFETY: each pointer and length are those of one live buffer, and the target is borrowed alone.
+    let reply = unsafe {
+        raw::narephon_move_up(
+            record.as_ptr(),
+            record.len(),
+            target.as_mut_ptr(),
+            target.len(),
+        )
+    };
+    answered(reply, target)
+}
+
+/// A record of version 2 moved back: the old record of its state, which versions before 0.3.0 take. It has one while `0x26`
+/// is `0x32` and `0x27` is `0x33`.
+///
+/// Refused by 13, for an old record too, or by 15.
+pub fn move_back(record: &[u8]) -> Result<[u8; OLD_RECORD], Reply> {
+    let mut target = [0; OLD_RECORD];
+    // SAFETY: as in `move_up`.
+    let reply = unsafe {
+        raw::narephon_move_back(
+            record.as_ptr(),
+            record.len(),
+            target.as_mut_ptr(),
+            target.len(),
+        )
+    };
+    answered(reply, target)
+}
+
+/// A stored record, of either version, as one that every call takes: an old one moved up, one of version 2 as it is.
+///
+/// Refused by 13.
+///
+/// ```
+/// # let stored = narephon::move_back(&narephon::reset())?;
+/// assert_eq!(stored.len(), narephon::OLD_RECORD);
+/// let mut record = narephon::load_record(&stored)?;
+/// narephon::write_register(&mut record, 0x26, 8)?;
+/// assert_eq!(narephon::load_record(&record)?, record);
+/// # Ok::<(), narephon::Reply>(())
+/// ```
+pub fn load_record(record: &[u8]) -> Result<[u8; RECORD], Reply> {
+    check_record(record)?;
+    record.try_into().or_else(|_| move_up(record))
 }
 
 /// Moves the state in a record one frame on, from 255 to 0.

@@ -37,12 +37,14 @@ pub enum Reply {
     NotRecord,
     /// 14: the file is not a screen, or the screen has no form as a file.
     NoForm,
+    /// 15: the record cannot be moved back: $26 is not $32, or $27 is not $33.
+    PairsDiffer,
     /// Any other number: the library is newer than this wrapper.
     Unknown(u8),
 }
 
 /// The replies with a number of their own.
-const KNOWN: [Reply; 14] = [
+const KNOWN: [Reply; 15] = [
     Reply::NoLine,
     Reply::BankLength,
     Reply::BufferLength,
@@ -57,6 +59,7 @@ const KNOWN: [Reply; 14] = [
     Reply::PackingBounds,
     Reply::NotRecord,
     Reply::NoForm,
+    Reply::PairsDiffer,
 ];
 
 impl Reply {
@@ -77,6 +80,7 @@ impl Reply {
             Reply::PackingBounds => 12,
             Reply::NotRecord => 13,
             Reply::NoForm => 14,
+            Reply::PairsDiffer => 15,
             Reply::Unknown(number) => number,
         }
     }
@@ -100,6 +104,9 @@ impl Reply {
             }
             Reply::NotRecord => "the bytes are not a record of a lawful state",
             Reply::NoForm => "the file is not a screen, or the screen has no form as a file",
+            Reply::PairsDiffer => {
+                "the record cannot be moved back: $26 is not $32, or $27 is not $33"
+            }
             Reply::Unknown(_) => {
                 "a reply that this wrapper does not know: the library is newer than it"
             }

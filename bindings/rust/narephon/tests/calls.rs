@@ -38,8 +38,114 @@ fn records_checked() {
     assert_eq!(narephon::check_record(&[]), Err(Reply::NotRecord));
     assert!(record == kept);
     // The version.
-    record[2] = 2;
+    record[2] = 3;
     assert_eq!(narephon::check_record(&record), Err(Reply::NotRecord));
+}
+
+/// A record after writes to registers.
+fn written(writes: &[(u8, u8)]) -> [u8; narephon::RECORD] {
+    let mut record = narephon::reset();
+    for &(number, value) in writes {
+        assert_eq!(narephon::write_register(&mut record, number, value), Ok(()));
+    }
+    record
+}
+
+/// The old record of one, by hand: without the bytes of $26 and $27.
+fn old_of(record: &[u8]) -> Vec<u8> {
+    [&[8, 100, 1], &record[3..21], &record[23..]].concat()
+}
+
+/// One scroll, of 13 and 65, in both pairs; and the old record of it.
+fn one_scroll() -> ([u8; narephon::RECORD], Vec<u8>) {
+    let record = written(&[(0x32, 13), (0x33, 65), (0x26, 13), (0x27, 65)]);
+    (record, old_of(&record))
+}
+
+#[test]
+fn moves() {
+    let (record, old) = one_scroll();
+    let places = written(&[(0x32, 1), (0x33, 2), (0x26, 3), (0x27, 4)]);
+    assert_eq!(places[19..23], [1, 2, 3, 4]);
+    assert!(narephon::move_back(&record).is_ok_and(|back| back[..] == old));
+    assert_eq!(narephon::move_up(&old), Ok(record));
+    // What is already there, and what is no record.
+    assert_eq!(narephon::move_up(&record), Err(Reply::NotRecord));
+    assert_eq!(narephon::move_back(&old), Err(Reply::NotRecord));
+    assert_eq!(narephon::move_up(&old[1..]), Err(Reply::NotRecord));
+    for writes in [[(0x26, 1)], [(0x27, 1)], [(0x32, 1)], [(0x33, 1)]] {
+        let back = narephon::move_back(&written(&writes));
+        assert_eq!(back, Err(Reply::PairsDiffer));
+    }
+}
+
+#[test]
+fn stored_records() {
+    let (record, old) = one_scroll();
+    let own = written(&[(0x26, 1)]);
+    assert_eq!(narephon::load_record(&old), Ok(record));
+    assert_eq!(narephon::load_record(&own), Ok(own));
+    for none in [&old[1..], &record[1..], &record[2..], &[]] {
+        assert_eq!(narephon::load_record(none), Err(Reply::NotRecord));
+    }
+}
+
+/// What only reads a record takes an old one; what changes it does not.
+#[test]
+fn old_records() {
+    let (_, mut old) = one_scroll();
+    let mut bank = [0; narephon::BANK];
+    let kept = old.clone();
+    assert_eq!(narephon::check_record(&old), Ok(()));
+    assert_eq!(narephon::read_register(&old, 0x26), Ok(13));
+    assert_eq!(narephon::read_register(&old, 0x27), Ok(65));
+    assert_eq!(narephon::read_port(&old, 0xFF3B), Ok(0));
+    let mut file = [0; narephon::SCREEN];
+    let screen = narephon::write_scr(&old, &bank, &mut file);
+    assert!(screen.is_ok_and(|file| file.len() == 6_912));
+    let none = Err(Reply::NotRecord);
+    assert_eq!(narephon::next_frame(&mut old), none);
+    assert_eq!(narephon::write_register(&mut old, 0x14, 7), none);
+    assert_eq!(narephon::write_port(&mut old, 0xFE, 2), none);
+    let read = narephon::read_scr(&mut old, &mut bank, &[1; 6_912]);
+    assert_eq!(read, Err(Reply::NotRecord));
+    assert!(old == kept && bank == [0; narephon::BANK]);
+}
+
+/// Index 2 of the ULA's palette is red, 3 green.
+const COLOURS: [(u8, u8); 3] = [(0x40, 2), (0x41, 0xE0), (0x41, 0x1C)];
+
+/// The display's first dot. Row 65, column 1 comes there by $26 and $27, and row 65 of LoRes, pixel 13, by $32 and $33.
+fn first_dot(record: &[u8]) -> u16 {
+    let mut bank = [0; narephon::BANK];
+    (bank[0x0901], bank[0x1901], bank[4_102]) = (0x80, 0x0A, 3);
+    let mut dots = [1; narephon::DOTS];
+    assert_eq!(narephon::draw(record, &bank, &bank, 32, &mut dots), Ok(()));
+    dots[64]
+}
+
+#[test]
+fn two_scrolls() {
+    let scrolls = [
+        ([(0x26, 13), (0x27, 65), (0x15, 0)], 448),
+        ([(0x32, 13), (0x33, 65), (0x15, 0x80)], 56),
+        ([(0x32, 13), (0x33, 65), (0x15, 0)], 0),
+        ([(0x26, 13), (0x27, 65), (0x15, 0x80)], 0),
+    ];
+    for (scroll, colour) in scrolls {
+        let record = written(&[COLOURS, scroll].concat());
+        assert_eq!(first_dot(&record), colour, "{scroll:?}");
+    }
+}
+
+/// An old record's $32 and $33 scroll both.
+#[test]
+fn an_old_scroll() {
+    for (control, colour) in [(0, 448), (0x80, 56)] {
+        let scroll = [(0x32, 13), (0x33, 65), (0x15, control)];
+        let record = written(&[COLOURS, scroll].concat());
+        assert_eq!(first_dot(&old_of(&record)), colour);
+    }
 }
 
 #[test]

@@ -49,26 +49,26 @@ give-requires-11 c κs = search needs
 give-requires-12 : tie.Need-give-requires-12
 give-requires-12 c κs = search needs
 
-read-eight-requires : tie.Need-read-eight-requires
-read-eight-requires c κs = search needs
-
 give-requires-13 : tie.Need-give-requires-13
 give-requires-13 c κs = search needs
 
 give-requires-14 : tie.Need-give-requires-14
 give-requires-14 c κs = search needs
 
+read-eight-requires : tie.Need-read-eight-requires
+read-eight-requires c κs = search needs
+
 give-requires-15 : tie.Need-give-requires-15
 give-requires-15 c κs = search needs
-
-read-nine-requires : tie.Need-read-nine-requires
-read-nine-requires c κs = search needs
 
 give-requires-16 : tie.Need-give-requires-16
 give-requires-16 c κs = search needs
 
 give-requires-17 : tie.Need-give-requires-17
 give-requires-17 c κs = search needs
+
+read-nine-requires : tie.Need-read-nine-requires
+read-nine-requires c κs = search needs
 
 give-requires-18 : tie.Need-give-requires-18
 give-requires-18 c κs = search needs
@@ -87,6 +87,12 @@ give-requires-22 c κs = search needs
 
 give-requires-23 : tie.Need-give-requires-23
 give-requires-23 c κs = search needs
+
+give-requires-24 : tie.Need-give-requires-24
+give-requires-24 c κs = search needs
+
+give-requires-25 : tie.Need-give-requires-25
+give-requires-25 c κs = search needs
 
 no-read-requires : tie.Need-no-read-requires
 no-read-requires c κs = search needs
@@ -128,22 +134,22 @@ returns-12 : tie.Need-returns-12
 returns-12 c = rw (c .before .match .keys12) (c .give12 .ensures)
 
 returns-13 : tie.Need-returns-13
-returns-13 c = rw (c .before .before .match .keys13) (rw (c .before .read-eight .ensures) at (c .give13 .ensures))
+returns-13 c = rw (c .before .match .keys13) (c .give13 .ensures)
 
 returns-14 : tie.Need-returns-14
 returns-14 c = rw (c .before .match .keys14) (c .give14 .ensures)
 
 returns-15 : tie.Need-returns-15
-returns-15 c = rw (c .before .match .keys15) (c .give15 .ensures)
+returns-15 c = rw (c .before .before .match .keys15) (rw (c .before .read-eight .ensures) at (c .give15 .ensures))
 
 returns-16 : tie.Need-returns-16
-returns-16 c = rw (c .before .before .match .keys16) (rw (c .before .read-nine .ensures) at (c .give16 .ensures))
+returns-16 c = rw (c .before .match .keys16) (c .give16 .ensures)
 
 returns-17 : tie.Need-returns-17
 returns-17 c = rw (c .before .match .keys17) (c .give17 .ensures)
 
 returns-18 : tie.Need-returns-18
-returns-18 c = rw (c .before .match .keys18) (c .give18 .ensures)
+returns-18 c = rw (c .before .before .match .keys18) (rw (c .before .read-nine .ensures) at (c .give18 .ensures))
 
 returns-19 : tie.Need-returns-19
 returns-19 c = rw (c .before .match .keys19) (c .give19 .ensures)
@@ -161,7 +167,13 @@ returns-23 : tie.Need-returns-23
 returns-23 c = rw (c .before .match .keys23) (c .give23 .ensures)
 
 returns-24 : tie.Need-returns-24
-returns-24 c = let r = c .before .match .rest in simp (ne-eqb _ _ (r .1), ne-eqb _ _ (r .0 .1), ne-eqb _ _ (r .0 .0 .1), ne-eqb _ _ (r .0 .0 .0 .1), ne-eqb _ _ (r .0 .0 .0 .0 .1), ne-eqb _ _ (r .0 .0 .0 .0 .0 .1), ne-eqb _ _ (r .0 .0 .0 .0 .0 .0 .1), ne-eqb _ _ (r .0 .0 .0 .0 .0 .0 .0 .1), ne-eqb _ _ (r .0 .0 .0 .0 .0 .0 .0 .0 .1), ne-eqb _ _ (r .0 .0 .0 .0 .0 .0 .0 .0 .0 .1), ne-eqb _ _ (r .0 .0 .0 .0 .0 .0 .0 .0 .0 .0 .1), ne-eqb _ _ (r .0 .0 .0 .0 .0 .0 .0 .0 .0 .0 .0 .1), ne-eqb _ _ (r .0 .0 .0 .0 .0 .0 .0 .0 .0 .0 .0 .0 .1), ne-eqb _ _ (r .0 .0 .0 .0 .0 .0 .0 .0 .0 .0 .0 .0 .0 .1), ne-eqb _ _ (r .0 .0 .0 .0 .0 .0 .0 .0 .0 .0 .0 .0 .0 .0 .1), ne-eqb _ _ (r .0 .0 .0 .0 .0 .0 .0 .0 .0 .0 .0 .0 .0 .0 .0 .1), ne-eqb _ _ (r .0 .0 .0 .0 .0 .0 .0 .0 .0 .0 .0 .0 .0 .0 .0 .0 .1), ne-eqb _ _ (r .0 .0 .0 .0 .0 .0 .0 .0 .0 .0 .0 .0 .0 .0 .0 .0 .0 .1), ne-eqb _ _ (r .0 .0 .0 .0 .0 .0 .0 .0 .0 .0 .0 .0 .0 .0 .0 .0 .0 .0 .1), ne-eqb _ _ (r .0 .0 .0 .0 .0 .0 .0 .0 .0 .0 .0 .0 .0 .0 .0 .0 .0 .0 .0 .1), ne-eqb _ _ (r .0 .0 .0 .0 .0 .0 .0 .0 .0 .0 .0 .0 .0 .0 .0 .0 .0 .0 .0 .0 .1), ne-eqb _ _ (r .0 .0 .0 .0 .0 .0 .0 .0 .0 .0 .0 .0 .0 .0 .0 .0 .0 .0 .0 .0 .0 .1), ne-eqb _ _ (r .0 .0 .0 .0 .0 .0 .0 .0 .0 .0 .0 .0 .0 .0 .0 .0 .0 .0 .0 .0 .0 .0 .1)) (c .no-read .ensures)
+returns-24 c = rw (c .before .match .keys24) (c .give24 .ensures)
+
+returns-25 : tie.Need-returns-25
+returns-25 c = rw (c .before .match .keys25) (c .give25 .ensures)
+
+returns-26 : tie.Need-returns-26
+returns-26 c = let r = c .before .match .rest in simp (ne-eqb _ _ (r .1), ne-eqb _ _ (r .0 .1), ne-eqb _ _ (r .0 .0 .1), ne-eqb _ _ (r .0 .0 .0 .1), ne-eqb _ _ (r .0 .0 .0 .0 .1), ne-eqb _ _ (r .0 .0 .0 .0 .0 .1), ne-eqb _ _ (r .0 .0 .0 .0 .0 .0 .1), ne-eqb _ _ (r .0 .0 .0 .0 .0 .0 .0 .1), ne-eqb _ _ (r .0 .0 .0 .0 .0 .0 .0 .0 .1), ne-eqb _ _ (r .0 .0 .0 .0 .0 .0 .0 .0 .0 .1), ne-eqb _ _ (r .0 .0 .0 .0 .0 .0 .0 .0 .0 .0 .1), ne-eqb _ _ (r .0 .0 .0 .0 .0 .0 .0 .0 .0 .0 .0 .1), ne-eqb _ _ (r .0 .0 .0 .0 .0 .0 .0 .0 .0 .0 .0 .0 .1), ne-eqb _ _ (r .0 .0 .0 .0 .0 .0 .0 .0 .0 .0 .0 .0 .0 .1), ne-eqb _ _ (r .0 .0 .0 .0 .0 .0 .0 .0 .0 .0 .0 .0 .0 .0 .1), ne-eqb _ _ (r .0 .0 .0 .0 .0 .0 .0 .0 .0 .0 .0 .0 .0 .0 .0 .1), ne-eqb _ _ (r .0 .0 .0 .0 .0 .0 .0 .0 .0 .0 .0 .0 .0 .0 .0 .0 .1), ne-eqb _ _ (r .0 .0 .0 .0 .0 .0 .0 .0 .0 .0 .0 .0 .0 .0 .0 .0 .0 .1), ne-eqb _ _ (r .0 .0 .0 .0 .0 .0 .0 .0 .0 .0 .0 .0 .0 .0 .0 .0 .0 .0 .1), ne-eqb _ _ (r .0 .0 .0 .0 .0 .0 .0 .0 .0 .0 .0 .0 .0 .0 .0 .0 .0 .0 .0 .1), ne-eqb _ _ (r .0 .0 .0 .0 .0 .0 .0 .0 .0 .0 .0 .0 .0 .0 .0 .0 .0 .0 .0 .0 .1), ne-eqb _ _ (r .0 .0 .0 .0 .0 .0 .0 .0 .0 .0 .0 .0 .0 .0 .0 .0 .0 .0 .0 .0 .0 .1), ne-eqb _ _ (r .0 .0 .0 .0 .0 .0 .0 .0 .0 .0 .0 .0 .0 .0 .0 .0 .0 .0 .0 .0 .0 .0 .1), ne-eqb _ _ (r .0 .0 .0 .0 .0 .0 .0 .0 .0 .0 .0 .0 .0 .0 .0 .0 .0 .0 .0 .0 .0 .0 .0 .1), ne-eqb _ _ (r .0 .0 .0 .0 .0 .0 .0 .0 .0 .0 .0 .0 .0 .0 .0 .0 .0 .0 .0 .0 .0 .0 .0 .0 .1)) (c .no-read .ensures)
 
 pub read-numbered-spec : {M : Type 1} → statement M
 read-numbered-spec =
@@ -182,19 +194,21 @@ read-numbered-spec =
     give-requires-10
     give-requires-11
     give-requires-12
-    read-eight-requires
     give-requires-13
     give-requires-14
+    read-eight-requires
     give-requires-15
-    read-nine-requires
     give-requires-16
     give-requires-17
+    read-nine-requires
     give-requires-18
     give-requires-19
     give-requires-20
     give-requires-21
     give-requires-22
     give-requires-23
+    give-requires-24
+    give-requires-25
     no-read-requires
     returns
     returns-2
@@ -219,4 +233,6 @@ read-numbered-spec =
     returns-21
     returns-22
     returns-23
-    returns-24)
+    returns-24
+    returns-25
+    returns-26)

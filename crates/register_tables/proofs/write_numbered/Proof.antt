@@ -22,6 +22,12 @@ write-tile-clip-requires c κs = search needs
 write-turns-requires : tie.Need-write-turns-requires
 write-turns-requires c κs = search needs
 
+write-ula-x-requires : tie.Need-write-ula-x-requires
+write-ula-x-requires c κs = search needs
+
+write-ula-y-requires : tie.Need-write-ula-y-requires
+write-ula-y-requires c κs = search needs
+
 write-tile-x-high-requires : tie.Need-write-tile-x-high-requires
 write-tile-x-high-requires c κs = search needs
 
@@ -31,11 +37,11 @@ write-tile-x-low-requires c κs = search needs
 write-tile-y-requires : tie.Need-write-tile-y-requires
 write-tile-y-requires c κs = search needs
 
-write-ula-x-requires : tie.Need-write-ula-x-requires
-write-ula-x-requires c κs = search needs
+write-lores-x-requires : tie.Need-write-lores-x-requires
+write-lores-x-requires c κs = search needs
 
-write-ula-y-requires : tie.Need-write-ula-y-requires
-write-ula-y-requires c κs = search needs
+write-lores-y-requires : tie.Need-write-lores-y-requires
+write-lores-y-requires c κs = search needs
 
 write-index-requires : tie.Need-write-index-requires
 write-index-requires c κs = search needs
@@ -95,58 +101,64 @@ returns-6 : tie.Need-returns-6
 returns-6 c = rw (c .before .match .keys6) (c .write-turns .ensures)
 
 returns-7 : tie.Need-returns-7
-returns-7 c = rw (c .before .match .keys7) (c .write-tile-x-high .ensures)
+returns-7 c = rw (c .before .match .keys7) (c .write-ula-x .ensures)
 
 returns-8 : tie.Need-returns-8
-returns-8 c = rw (c .before .match .keys8) (c .write-tile-x-low .ensures)
+returns-8 c = rw (c .before .match .keys8) (c .write-ula-y .ensures)
 
 returns-9 : tie.Need-returns-9
-returns-9 c = rw (c .before .match .keys9) (c .write-tile-y .ensures)
+returns-9 c = rw (c .before .match .keys9) (c .write-tile-x-high .ensures)
 
 returns-10 : tie.Need-returns-10
-returns-10 c = rw (c .before .match .keys10) (c .write-ula-x .ensures)
+returns-10 c = rw (c .before .match .keys10) (c .write-tile-x-low .ensures)
 
 returns-11 : tie.Need-returns-11
-returns-11 c = rw (c .before .match .keys11) (c .write-ula-y .ensures)
+returns-11 c = rw (c .before .match .keys11) (c .write-tile-y .ensures)
 
 returns-12 : tie.Need-returns-12
-returns-12 c = rw (c .before .match .keys12) (c .write-index .ensures)
+returns-12 c = rw (c .before .match .keys12) (c .write-lores-x .ensures)
 
 returns-13 : tie.Need-returns-13
-returns-13 c = rw (c .before .match .keys13) (c .write-eight .ensures)
+returns-13 c = rw (c .before .match .keys13) (c .write-lores-y .ensures)
 
 returns-14 : tie.Need-returns-14
-returns-14 c = rw (c .before .match .keys14) (c .write-mask .ensures)
+returns-14 c = rw (c .before .match .keys14) (c .write-index .ensures)
 
 returns-15 : tie.Need-returns-15
-returns-15 c = rw (c .before .match .keys15) (c .write-control .ensures)
+returns-15 c = rw (c .before .match .keys15) (c .write-eight .ensures)
 
 returns-16 : tie.Need-returns-16
-returns-16 c = rw (c .before .match .keys16) (c .write-nine .ensures)
+returns-16 c = rw (c .before .match .keys16) (c .write-mask .ensures)
 
 returns-17 : tie.Need-returns-17
-returns-17 c = rw (c .before .match .keys17) (c .write-fallback .ensures)
+returns-17 c = rw (c .before .match .keys17) (c .write-control .ensures)
 
 returns-18 : tie.Need-returns-18
-returns-18 c = rw (c .before .match .keys18) (c .write-tile-transparent .ensures)
+returns-18 c = rw (c .before .match .keys18) (c .write-nine .ensures)
 
 returns-19 : tie.Need-returns-19
-returns-19 c = rw (c .before .match .keys19) (c .write-ula-control .ensures)
+returns-19 c = rw (c .before .match .keys19) (c .write-fallback .ensures)
 
 returns-20 : tie.Need-returns-20
-returns-20 c = rw (c .before .match .keys20) (c .write-tile-control .ensures)
+returns-20 c = rw (c .before .match .keys20) (c .write-tile-transparent .ensures)
 
 returns-21 : tie.Need-returns-21
-returns-21 c = rw (c .before .match .keys21) (c .write-tile-attribute .ensures)
+returns-21 c = rw (c .before .match .keys21) (c .write-ula-control .ensures)
 
 returns-22 : tie.Need-returns-22
-returns-22 c = rw (c .before .match .keys22) (c .write-map .ensures)
+returns-22 c = rw (c .before .match .keys22) (c .write-tile-control .ensures)
 
 returns-23 : tie.Need-returns-23
-returns-23 c = rw (c .before .match .keys23) (c .write-definitions .ensures)
+returns-23 c = rw (c .before .match .keys23) (c .write-tile-attribute .ensures)
 
 returns-24 : tie.Need-returns-24
-returns-24 c = let r = c .before .match .rest in simp (ne-eqb _ _ (r .1), ne-eqb _ _ (r .0 .1), ne-eqb _ _ (r .0 .0 .1), ne-eqb _ _ (r .0 .0 .0 .1), ne-eqb _ _ (r .0 .0 .0 .0 .1), ne-eqb _ _ (r .0 .0 .0 .0 .0 .1), ne-eqb _ _ (r .0 .0 .0 .0 .0 .0 .1), ne-eqb _ _ (r .0 .0 .0 .0 .0 .0 .0 .1), ne-eqb _ _ (r .0 .0 .0 .0 .0 .0 .0 .0 .1), ne-eqb _ _ (r .0 .0 .0 .0 .0 .0 .0 .0 .0 .1), ne-eqb _ _ (r .0 .0 .0 .0 .0 .0 .0 .0 .0 .0 .1), ne-eqb _ _ (r .0 .0 .0 .0 .0 .0 .0 .0 .0 .0 .0 .1), ne-eqb _ _ (r .0 .0 .0 .0 .0 .0 .0 .0 .0 .0 .0 .0 .1), ne-eqb _ _ (r .0 .0 .0 .0 .0 .0 .0 .0 .0 .0 .0 .0 .0 .1), ne-eqb _ _ (r .0 .0 .0 .0 .0 .0 .0 .0 .0 .0 .0 .0 .0 .0 .1), ne-eqb _ _ (r .0 .0 .0 .0 .0 .0 .0 .0 .0 .0 .0 .0 .0 .0 .0 .1), ne-eqb _ _ (r .0 .0 .0 .0 .0 .0 .0 .0 .0 .0 .0 .0 .0 .0 .0 .0 .1), ne-eqb _ _ (r .0 .0 .0 .0 .0 .0 .0 .0 .0 .0 .0 .0 .0 .0 .0 .0 .0 .1), ne-eqb _ _ (r .0 .0 .0 .0 .0 .0 .0 .0 .0 .0 .0 .0 .0 .0 .0 .0 .0 .0 .1), ne-eqb _ _ (r .0 .0 .0 .0 .0 .0 .0 .0 .0 .0 .0 .0 .0 .0 .0 .0 .0 .0 .0 .1), ne-eqb _ _ (r .0 .0 .0 .0 .0 .0 .0 .0 .0 .0 .0 .0 .0 .0 .0 .0 .0 .0 .0 .0 .1), ne-eqb _ _ (r .0 .0 .0 .0 .0 .0 .0 .0 .0 .0 .0 .0 .0 .0 .0 .0 .0 .0 .0 .0 .0 .1), ne-eqb _ _ (r .0 .0 .0 .0 .0 .0 .0 .0 .0 .0 .0 .0 .0 .0 .0 .0 .0 .0 .0 .0 .0 .0 .1)) (c .no-write .ensures)
+returns-24 c = rw (c .before .match .keys24) (c .write-map .ensures)
+
+returns-25 : tie.Need-returns-25
+returns-25 c = rw (c .before .match .keys25) (c .write-definitions .ensures)
+
+returns-26 : tie.Need-returns-26
+returns-26 c = let r = c .before .match .rest in simp (ne-eqb _ _ (r .1), ne-eqb _ _ (r .0 .1), ne-eqb _ _ (r .0 .0 .1), ne-eqb _ _ (r .0 .0 .0 .1), ne-eqb _ _ (r .0 .0 .0 .0 .1), ne-eqb _ _ (r .0 .0 .0 .0 .0 .1), ne-eqb _ _ (r .0 .0 .0 .0 .0 .0 .1), ne-eqb _ _ (r .0 .0 .0 .0 .0 .0 .0 .1), ne-eqb _ _ (r .0 .0 .0 .0 .0 .0 .0 .0 .1), ne-eqb _ _ (r .0 .0 .0 .0 .0 .0 .0 .0 .0 .1), ne-eqb _ _ (r .0 .0 .0 .0 .0 .0 .0 .0 .0 .0 .1), ne-eqb _ _ (r .0 .0 .0 .0 .0 .0 .0 .0 .0 .0 .0 .1), ne-eqb _ _ (r .0 .0 .0 .0 .0 .0 .0 .0 .0 .0 .0 .0 .1), ne-eqb _ _ (r .0 .0 .0 .0 .0 .0 .0 .0 .0 .0 .0 .0 .0 .1), ne-eqb _ _ (r .0 .0 .0 .0 .0 .0 .0 .0 .0 .0 .0 .0 .0 .0 .1), ne-eqb _ _ (r .0 .0 .0 .0 .0 .0 .0 .0 .0 .0 .0 .0 .0 .0 .0 .1), ne-eqb _ _ (r .0 .0 .0 .0 .0 .0 .0 .0 .0 .0 .0 .0 .0 .0 .0 .0 .1), ne-eqb _ _ (r .0 .0 .0 .0 .0 .0 .0 .0 .0 .0 .0 .0 .0 .0 .0 .0 .0 .1), ne-eqb _ _ (r .0 .0 .0 .0 .0 .0 .0 .0 .0 .0 .0 .0 .0 .0 .0 .0 .0 .0 .1), ne-eqb _ _ (r .0 .0 .0 .0 .0 .0 .0 .0 .0 .0 .0 .0 .0 .0 .0 .0 .0 .0 .0 .1), ne-eqb _ _ (r .0 .0 .0 .0 .0 .0 .0 .0 .0 .0 .0 .0 .0 .0 .0 .0 .0 .0 .0 .0 .1), ne-eqb _ _ (r .0 .0 .0 .0 .0 .0 .0 .0 .0 .0 .0 .0 .0 .0 .0 .0 .0 .0 .0 .0 .0 .1), ne-eqb _ _ (r .0 .0 .0 .0 .0 .0 .0 .0 .0 .0 .0 .0 .0 .0 .0 .0 .0 .0 .0 .0 .0 .0 .1), ne-eqb _ _ (r .0 .0 .0 .0 .0 .0 .0 .0 .0 .0 .0 .0 .0 .0 .0 .0 .0 .0 .0 .0 .0 .0 .0 .1), ne-eqb _ _ (r .0 .0 .0 .0 .0 .0 .0 .0 .0 .0 .0 .0 .0 .0 .0 .0 .0 .0 .0 .0 .0 .0 .0 .0 .1)) (c .no-write .ensures)
 
 pub write-numbered-spec : {M : Type 1} → statement M
 write-numbered-spec =
@@ -158,11 +170,13 @@ write-numbered-spec =
     write-ula-clip-requires
     write-tile-clip-requires
     write-turns-requires
+    write-ula-x-requires
+    write-ula-y-requires
     write-tile-x-high-requires
     write-tile-x-low-requires
     write-tile-y-requires
-    write-ula-x-requires
-    write-ula-y-requires
+    write-lores-x-requires
+    write-lores-y-requires
     write-index-requires
     write-eight-requires
     write-mask-requires
@@ -199,4 +213,6 @@ write-numbered-spec =
     returns-21
     returns-22
     returns-23
-    returns-24)
+    returns-24
+    returns-25
+    returns-26)

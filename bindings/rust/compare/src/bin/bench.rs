@@ -36,6 +36,7 @@ fn base(random: &mut Random) -> State {
     }
     state.peripheral = 4;
     (state.ula_x, state.ula_y) = (20, 50);
+    (state.lores_x, state.lores_y) = (20, 50);
     (state.tile_x_low, state.tile_y) = (13, 77);
     // The map and its definitions, as far apart as 80 columns need.
     (state.map_base, state.definition_base) = (0, 0x20);

@@ -48,6 +48,8 @@ pub fn quick(state: &model::State) -> fast::State {
         tile_y: state.tile_y,
         ula_x: state.ula_x,
         ula_y: state.ula_y,
+        lores_x: state.lores_x,
+        lores_y: state.lores_y,
         palette_index: state.palette_index,
         ink_mask: state.ink_mask,
         palette_control: state.palette_control,
@@ -99,8 +101,8 @@ fn ula_fields(random: &mut Random, state: &mut model::State) {
     state.layers = random.byte();
     state.timex = random.byte();
     state.border = random.below(8) as u8;
-    state.ula_x = random.byte();
-    state.ula_y = random.below(192) as u8;
+    (state.ula_x, state.ula_y) = (random.byte(), random.below(192) as u8);
+    (state.lores_x, state.lores_y) = (random.byte(), random.below(192) as u8);
     state.ink_mask = random.pick(&[1, 3, 7, 15, 31, 63, 127, 255]);
     state.ula_control = random.byte() & 0xC1;
     if random.chance(2) {
@@ -156,7 +158,7 @@ fn palettes(random: &mut Random, state: &mut model::State) {
 
 /// Puts one field of a state out of its bounds.
 pub fn spoil(random: &mut Random, state: &mut model::State) {
-    match random.below(16) {
+    match random.below(17) {
         0 => state.ula_y = 192 + random.below(64) as u8,
         1 => state.ink_mask = random.pick(&[0, 2, 5, 254, 128, 126]),
         2 => state.palette_control = 0x10 | state.palette_control & 0x8F,
@@ -174,6 +176,7 @@ pub fn spoil(random: &mut Random, state: &mut model::State) {
             state.held = false;
             state.half = 1;
         }
+        14 => state.lores_y = 192 + random.below(64) as u8,
         _ => {
             let place = random.below(1_024) as usize;
             state.palettes[place / 256][place % 256] = random.pick(&[512, 1_024, 65_535, 0x8000]);

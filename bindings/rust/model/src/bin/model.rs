@@ -1,10 +1,11 @@
 //! Works out expected answers: register scripts, records, lines, pictures, screen files, packings.
 
+use model::record::writes_back;
 use model::reply::{Reply, DONE, NO_SUCH_REGISTER};
 use model::sums::dots_sum;
 use model::{
     draw, next_frame, pack, read_port, read_record, read_register, read_scr, screen_value, widen,
-    write_port, write_record, write_register, State, BANK_LENGTH, DOTS, RECORD_LENGTH,
+    write_port, write_register, State, BANK_LENGTH, DOTS,
 };
 use std::env::args;
 use std::fs::read;
@@ -112,13 +113,11 @@ fn step(state: &mut State, kind: u8, number: u16, value: u8) -> Result<String, S
 /// The reply of reading a record and, where it is 0, whether writing gives the
 /// same bytes.
 fn record(bytes: &[u8]) -> String {
-    let (reply, state) = read_record(bytes);
-    if reply != DONE {
-        return format!("{reply}\n");
+    match (read_record(bytes).0, writes_back(bytes)) {
+        (DONE, true) => format!("{DONE} same\n"),
+        (DONE, false) => format!("{DONE} different\n"),
+        (reply, _) => format!("{reply}\n"),
     }
-    let mut written = vec![0; RECORD_LENGTH];
-    let same = write_record(&state, &mut written) == DONE && written == bytes;
-    format!("{reply} {}\n", if same { "same" } else { "different" })
 }
 
 /// What lines are drawn from.

@@ -1,7 +1,7 @@
 //! Helpers of the tests.
 #![allow(dead_code)]
 
-use model::{draw, State, BANK_LENGTH, DOTS};
+use model::{draw, write_record, State, BANK_LENGTH, DOTS, RECORD_LENGTH};
 
 /// A bank of zeros with some bytes set.
 pub fn bank(bytes: &[(usize, u8)]) -> Vec<u8> {
@@ -36,6 +36,21 @@ pub fn timex(value: u8) -> State {
     state.peripheral = 4;
     state.timex = value;
     state
+}
+
+/// The record of a lawful state.
+pub fn record_of(state: &State) -> Vec<u8> {
+    let mut bytes = vec![0xAA; RECORD_LENGTH];
+    assert_eq!(write_record(state, &mut bytes), 0);
+    bytes
+}
+
+/// Version 1 of it by hand, which leaves $26 and $27 out.
+pub fn old_record_of(state: &State) -> Vec<u8> {
+    let mut bytes = record_of(state);
+    bytes.drain(21..23);
+    bytes[..3].copy_from_slice(&[8, 100, 1]);
+    bytes
 }
 
 /// A line that must draw.

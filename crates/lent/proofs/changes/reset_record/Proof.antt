@@ -7,6 +7,9 @@ use borrow.Author.Needs.{needs}
 use Rattle.lent.proofs.changes.reset_record.Statement.{statement}
 use Rattle.lent.proofs.changes.reset_record.Tie as tie
 
+length-of-requires : tie.Need-length-of-requires
+length-of-requires c κs = search needs
+
 reset-requires : tie.Need-reset-requires
 reset-requires c κs = search needs
 
@@ -18,12 +21,12 @@ same-length c = search needs
 
 returns : tie.Need-returns
 returns c =
-    let e = eq-eqb _ _ (c .before .before .before .before .before .if1 .taken) in
+    let e = eq-eqb _ _ (c .before .before .before .before .before .if1 .taken ∙ c .before .before .before .before .before .before .length-of .ensures) in
     (sym (if-true _ _ _ e), c .before .before .put-record .ensures ∙ ap recordOf (c .before .before .before .before .reset .ensures) ∙ sym (if-true _ _ _ e))
 
 returns-2 : tie.Need-returns-2
-returns-2 c = let e = ne-eqb _ _ (c .if1 .left) in (sym (if-false _ _ _ e), sym (if-false _ _ _ e))
+returns-2 c = let e = ne-eqb _ _ (λ z. c .if1 .left (z ∙ sym (c .before .length-of .ensures))) in (sym (if-false _ _ _ e), sym (if-false _ _ _ e))
 
 pub reset-record-spec : {M : Type 1} → statement M
 reset-record-spec =
-    tie.close (tie.spec reset-requires put-record-requires same-length returns returns-2)
+    tie.close (tie.spec length-of-requires reset-requires put-record-requires same-length returns returns-2)

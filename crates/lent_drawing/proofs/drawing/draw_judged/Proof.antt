@@ -34,14 +34,14 @@ same-length c = search needs
 returns : tie.Need-returns
 returns c =
     let r = c .before .before .before .before .before .before .state-reply in (
-      state-reply-read (c .before .before .before .before .before .before .before .before .before .before .before .before .before .before .before .args .bytes .now) _ _ _ _ (r .result) (c .before .before .before .before .before .before .before .before .before .before .ula-at .ensures) (c .before .before .before .before .before .before .before .before .before .tiles-at .ensures) (c .before .before .before .before .before .before .before .before .palette-at .ensures) (c .before .before .before .before .before .before .before .ports-at .ensures) (r .ensures),
+      state-reply-read (c .before .before .before .before .before .before .before .before .before .before .before .before .before .before .before .args .v) (c .before .before .before .before .before .before .before .before .before .before .before .before .before .before .before .args .bytes .now) _ _ _ _ (r .result) (c .before .before .before .before .before .before .before .before .before .before .ula-at .ensures) (c .before .before .before .before .before .before .before .before .before .tiles-at .ensures _) (c .before .before .before .before .before .before .before .before .palette-at .ensures) (c .before .before .before .before .before .before .before .ports-at .ensures) (r .ensures),
       drawn _ _ _ _ _ refl (done-is (c .before .before .before .before .before .number .result) (r .result) (c .before .before .before .before .before .number .ensures) (c .before .before .before .before .if1 .taken)) (c .before .before .draw-line .ensures),
     )
 
 returns-2 : tie.Need-returns-2
 returns-2 c =
     let r = c .before .before .state-reply in (
-      state-reply-read (c .before .before .before .before .before .before .before .before .before .before .before .args .bytes .now) _ _ _ _ (r .result) (c .before .before .before .before .before .before .ula-at .ensures) (c .before .before .before .before .before .tiles-at .ensures) (c .before .before .before .before .palette-at .ensures) (c .before .before .before .ports-at .ensures) (r .ensures),
+      state-reply-read (c .before .before .before .before .before .before .before .before .before .before .before .args .v) (c .before .before .before .before .before .before .before .before .before .before .before .args .bytes .now) _ _ _ _ (r .result) (c .before .before .before .before .before .before .ula-at .ensures) (c .before .before .before .before .before .tiles-at .ensures _) (c .before .before .before .before .palette-at .ensures) (c .before .before .before .ports-at .ensures) (r .ensures),
       left _ _ _ _ refl (not-done (c .before .number .result) (r .result) (c .before .number .ensures) (c .if1 .left)),
     )
 

@@ -23,7 +23,7 @@ returns : tie.Need-returns
 returns c =
     let a = c .before .before .before .before .before .before .before .before .before .before .before .before .before .before .args in
     let u = c .before .before .before .before .before .ula-at in
-    line-laid (a .bytes .now) (a .ula .now) (a .tile .now) (a .line) _ _ (u .result) _ (c .before .before .before .before .before .before .before .before .lay-layers .ensures) (u .ensures) (c .before .before .before .before .widen .ensures) (c .before .before .finish-line .ensures)
+    line-laid (a .v) (a .bytes .now) (a .ula .now) (a .tile .now) (a .line) _ _ (u .result) _ (c .before .before .before .before .before .before .before .before .lay-layers .ensures) (u .ensures) (c .before .before .before .before .widen .ensures) (c .before .before .finish-line .ensures)
 
 pub draw-line-spec : {M : Type 1} → statement M
 draw-line-spec =

@@ -23,7 +23,7 @@ same-length c = search needs
 returns : tie.Need-returns
 returns c =
     let a = c .before .before .before .before .before .before .before .before .before .before .before .before .before .before .before .args in
-    layers-on (a .bytes .now) (a .ula .now) (a .tile .now) (a .line) _ _ (c .before .before .before .before .before .before .before .before .before .lay-ula .ensures) (c .before .before .lay-tiles .ensures)
+    layers-on (a .v) (a .bytes .now) (a .ula .now) (a .tile .now) (a .line) _ _ (c .before .before .before .before .before .before .before .before .before .lay-ula .ensures) (c .before .before .lay-tiles .ensures)
 
 same-length-2 : tie.Need-same-length-2
 same-length-2 c = search needs
@@ -32,7 +32,7 @@ returns-2 : tie.Need-returns-2
 returns-2 c =
     let a = c .before .before .before .before .before .before .before .before .before .before .before .args in
     let t = c .before .before .tiles-at in
-    layers-off (a .bytes .now) (a .ula .now) (a .tile .now) (a .line) _ (t .result) (c .before .before .before .before .before .lay-ula .ensures) (t .ensures) (sym (c .before .tilemap-on .ensures) ∙ c .if1 .left)
+    layers-off (a .v) (a .bytes .now) (a .ula .now) (a .tile .now) (a .line) _ (t .result) (c .before .before .before .before .before .lay-ula .ensures) (t .ensures (a .v)) (sym (c .before .tilemap-on .ensures) ∙ c .if1 .left)
 
 pub lay-layers-spec : {M : Type 1} → statement M
 lay-layers-spec =

@@ -1,7 +1,5 @@
 -- The groups that the ULA shows are read of the record, and its dots are those of the state in it.
-use mathlib.Core.Path.{refl}
 use Rattle.lists.specs.Tab.{tab}
-use Rattle.record_layout.specs.Record.{stateAs}
 use Rattle.lent_drawing.proofs.Drawn.{mask-read, border-read, ula-palette-read, ula-laid}
 use borrow.Author.Needs.{needs}
 use Rattle.lent_drawing.proofs.drawing.lay_ula.Statement.{statement}
@@ -16,11 +14,11 @@ palette-at-requires c κs = search needs
 ports-at-requires : tie.Need-ports-at-requires
 ports-at-requires c κs = search needs
 
-shared-slice-read-frame : tie.Need-shared-slice-read-frame
-shared-slice-read-frame c = search needs
+frame-at-requires : tie.Need-frame-at-requires
+frame-at-requires c κs = search needs
 
-clip-at-requires : tie.Need-clip-at-requires
-clip-at-requires c κs = search needs
+ula-clip-at-requires : tie.Need-ula-clip-at-requires
+ula-clip-at-requires c κs = search needs
 
 plus-at-requires : tie.Need-plus-at-requires
 plus-at-requires c κs = search needs
@@ -34,20 +32,20 @@ colours-at-requires c κs = search needs
 ula-row-requires : tie.Need-ula-row-requires
 ula-row-requires c κs =
     let s = c .before .before .before .before .before .before .before .before .before .before .before .before .before .before .before in
-    (mask-read (s .args .bytes .now) (s .pre .0) _ (c .before .before .before .before .before .before .before .before .before .before .palette-at .ensures), border-read (s .args .bytes .now) (s .pre .0) _ (c .before .before .before .before .before .before .before .before .before .ports-at .ensures), s .pre .1, s .pre .2, s .pre .3)
+    (mask-read (s .args .v) (s .args .bytes .now) (s .pre .0) _ (c .before .before .before .before .before .before .before .before .before .before .palette-at .ensures), border-read (s .args .v) (s .args .bytes .now) (s .pre .0) _ (c .before .before .before .before .before .before .before .before .before .ports-at .ensures), s .pre .1, s .pre .2, s .pre .3)
 
 same-length : tie.Need-same-length
 same-length c = search needs
 
 returns : tie.Need-returns
-unfolding stateAs tab
+unfolding tab
 returns c =
     let s = c .before .before .before .before .before .before .before .before .before .before .before .before .before .before .before .before .before .before in
     let a = s .args in
     let b = a .bytes .now in
     let p = c .before .before .before .before .before .before .before .before .before .before .before .before .before .palette-at in
-    ula-laid b (a .bank .now) (a .line) _ _ _ _ _ _ _ _ (c .before .before .before .before .before .before .before .before .before .before .before .before .before .before .ula-at .ensures) (p .ensures) (c .before .before .before .before .before .before .before .before .before .before .before .before .ports-at .ensures) refl (c .before .before .before .before .before .before .before .before .before .before .clip-at .ensures) (c .before .before .before .before .before .before .before .before .before .plus-at .ensures)
-    (ula-palette-read b _ _ (c .before .before .before .before .before .before .before .colours-at .ensures) (p .result) (p .ensures) (c .before .before .before .before .before .before .before .before .ula-place .ensures .0)) (c .before .before .ula-row .ensures)
+    ula-laid (a .v) b (a .bank .now) (a .line) _ _ _ _ _ _ _ _ (c .before .before .before .before .before .before .before .before .before .before .before .before .before .before .ula-at .ensures) (p .ensures) (c .before .before .before .before .before .before .before .before .before .before .before .before .ports-at .ensures) (c .before .before .before .before .before .before .before .before .before .before .before .frame-at .ensures) (c .before .before .before .before .before .before .before .before .before .before .ula-clip-at .ensures) (c .before .before .before .before .before .before .before .before .before .plus-at .ensures)
+    (ula-palette-read (a .v) b _ _ (c .before .before .before .before .before .before .before .colours-at .ensures) (p .result) (p .ensures) (c .before .before .before .before .before .before .before .before .ula-place .ensures .0)) (c .before .before .ula-row .ensures)
 
 pub lay-ula-spec : {M : Type 1} → statement M
 lay-ula-spec =
@@ -56,8 +54,8 @@ lay-ula-spec =
     ula-at-requires
     palette-at-requires
     ports-at-requires
-    shared-slice-read-frame
-    clip-at-requires
+    frame-at-requires
+    ula-clip-at-requires
     plus-at-requires
     ula-place-requires
     colours-at-requires

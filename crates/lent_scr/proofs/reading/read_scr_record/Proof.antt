@@ -8,8 +8,8 @@ use Rattle.lent_scr.proofs.reading.read_scr_record.Tie as tie
 shape-of-requires : tie.Need-shape-of-requires
 shape-of-requires c κs = search needs
 
-read-record-requires : tie.Need-read-record-requires
-read-record-requires c κs = search needs
+read-current-requires : tie.Need-read-current-requires
+read-current-requires c κs = search needs
 
 read-reply-requires : tie.Need-read-reply-requires
 read-reply-requires c κs = search needs
@@ -21,7 +21,7 @@ store-screen-requires : tie.Need-store-screen-requires
 store-screen-requires c κs =
     let a = c .before .before .before .before .before .before .before .before .before .before .before .before .args in
     let f = c .before .before .before .before .before .before .before .before .shape-of in
-    let b = c .before .before .before .before .before .before .read-record in
+    let b = c .before .before .before .before .before .before .read-current in
     let q = c .before .before .before .before .before .read-reply in
     let n = c .before .before .before .before .number in
     let z = c .before .before .before .if1 .taken in
@@ -32,7 +32,7 @@ place-requires : tie.Need-place-requires
 place-requires c κs =
     let a = c .before .before .before .before .before .before .before .before .before .before .before .before .before .before .before .before .before .args in
     let f = c .before .before .before .before .before .before .before .before .before .before .before .before .before .shape-of in
-    let b = c .before .before .before .before .before .before .before .before .before .before .before .read-record in
+    let b = c .before .before .before .before .before .before .before .before .before .before .before .read-current in
     let q = c .before .before .before .before .before .before .before .before .before .before .read-reply in
     let n = c .before .before .before .before .before .before .before .before .before .number in
     let w = accepted (a .bytes .now) (a .bank .now) (a .file .now) (b .result) (f .result) (q .result) (n .result) (b .ensures) (f .ensures) (q .ensures) (n .ensures) (c .before .before .before .before .before .before .before .before .if1 .taken) in
@@ -48,7 +48,7 @@ returns : tie.Need-returns
 returns c =
     let a = c .before .before .before .before .before .before .before .before .before .before .before .before .before .before .before .before .before .before .args in
     let f = c .before .before .before .before .before .before .before .before .before .before .before .before .before .before .shape-of in
-    let b = c .before .before .before .before .before .before .before .before .before .before .before .before .read-record in
+    let b = c .before .before .before .before .before .before .before .before .before .before .before .before .read-current in
     let q = c .before .before .before .before .before .before .before .before .before .before .before .read-reply in
     let n = c .before .before .before .before .before .before .before .before .before .before .number in
     let w = c .before .before .before .before .before .store-screen in
@@ -61,7 +61,7 @@ returns-2 : tie.Need-returns-2
 returns-2 c =
     let a = c .before .before .before .before .before .before .before .before .before .args in
     let f = c .before .before .before .before .before .shape-of in
-    let b = c .before .before .before .read-record in
+    let b = c .before .before .before .read-current in
     let q = c .before .before .read-reply in
     let n = c .before .number in
     unread (a .bytes .now) (a .bank .now) (a .file .now) (b .result) (f .result) (q .result) (n .result) (b .ensures) (f .ensures) (q .ensures) (n .ensures) (c .if1 .left)
@@ -71,7 +71,7 @@ read-scr-record-spec =
     tie.close
     (tie.spec
     shape-of-requires
-    read-record-requires
+    read-current-requires
     read-reply-requires
     number-requires
     store-screen-requires

@@ -1,23 +1,20 @@
--- The reply of a reading, by its one test.
-use Rattle.record_layout.specs.Version.{current}
-use Rattle.record_layout.specs.Record.{readRecord}
-use Rattle.record_layout.proofs.Stages.{accepts, refuses}
-use Rattle.state.specs.declared.Answer.{Answer}
-use mathlib.Core.Path.{sym, ap, _∙_}
+-- Bytes are judged as those of the version that has their length.
+use mathlib.Core.Path.{ap, _∙_}
+use Rattle.record_layout.specs.declared.Version.{Version}
+use Rattle.record_layout.specs.Record.{readAs, readRecord}
 use borrow.Author.Needs.{needs}
 use Rattle.record.proofs.reading.record_reply.Statement.{statement}
 use Rattle.record.proofs.reading.record_reply.Tie as tie
 
-is-record-requires : tie.Need-is-record-requires
-is-record-requires c κs = search needs
+version-of-requires : tie.Need-version-of-requires
+version-of-requires c κs = search needs
+
+reply-as-requires : tie.Need-reply-as-requires
+reply-as-requires c κs = search needs
 
 returns : tie.Need-returns
 unfolding readRecord
-returns c = ap (λ (a : Answer). a .reply) (sym (accepts current _ (sym (c .before .is-record .ensures) ∙ c .if1 .taken)))
-
-returns-2 : tie.Need-returns-2
-unfolding readRecord
-returns-2 c = ap (λ (a : Answer). a .reply) (sym (refuses current _ (sym (c .before .is-record .ensures) ∙ c .if1 .left)))
+returns c = c .reply-as .ensures ∙ ap (λ (v : Version). readAs v (c .before .before .before .args .bytes .now) .reply) (c .before .version-of .ensures)
 
 pub record-reply-spec : {M : Type 1} → statement M
-record-reply-spec = tie.close (tie.spec is-record-requires returns returns-2)
+record-reply-spec = tie.close (tie.spec version-of-requires reply-as-requires returns)

@@ -1,6 +1,5 @@
--- The tilemap's registers of the state are read at their places in the layout, by computation.
-use mathlib.Core.Path.{refl}
-use Rattle.record_layout.specs.Record.{stateAs}
+-- The tilemap's registers of the state are read at their places, which no version moves.
+use Rattle.record_layout.proofs.Read.{tiles-read}
 use borrow.Author.Needs.{needs}
 use Rattle.record_groups.proofs.groups.tiles_at.Statement.{statement}
 use Rattle.record_groups.proofs.groups.tiles_at.Tie as tie
@@ -30,8 +29,7 @@ shared-slice-read-t17 : tie.Need-shared-slice-read-t17
 shared-slice-read-t17 c = search needs
 
 returns : tie.Need-returns
-unfolding stateAs
-returns c = refl
+returns c v = tiles-read _ v
 
 pub tiles-at-spec : {M : Type 1} → statement M
 tiles-at-spec =

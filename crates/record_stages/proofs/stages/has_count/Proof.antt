@@ -38,9 +38,12 @@ add-following c = search needs
 add-result : tie.Need-add-result
 add-result c = search needs
 
+following-of-requires : tie.Need-following-of-requires
+following-of-requires c κs = search needs
+
 returns-2 : tie.Need-returns-2
 unfolding counted
-returns-2 c = rw (c .before .before .usize-of .ensures .0, c .usize-of2 .ensures .0)
+returns-2 c = rw (c .before .before .before .usize-of .ensures .0, c .before .usize-of2 .ensures .0, c .following-of .ensures)
 
 pub has-count-spec : {M : Type 1} → statement M
 has-count-spec =
@@ -55,4 +58,5 @@ has-count-spec =
     usize-of-requires-2
     add-following
     add-result
+    following-of-requires
     returns-2)

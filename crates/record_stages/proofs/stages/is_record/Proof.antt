@@ -1,6 +1,6 @@
 -- The stated number gives the length that the later stages ask for.
-use Rattle.record_layout.specs.Version.{current}
 use Rattle.record_layout.proofs.Stages.{counted-number}
+use Rattle.record_layout.proofs.Whole.{whole-length}
 use native.Mathlib.Omega.{arith}
 use mathlib.Core.Path.{sym, _∙_}
 use borrow.Author.Needs.{needs}
@@ -11,10 +11,17 @@ has-count-requires : tie.Need-has-count-requires
 has-count-requires c κs = search needs
 
 has-version-requires : tie.Need-has-version-requires
-has-version-requires c κs = let e = sym (c .before .has-count .ensures) ∙ c .if1 .taken in omega (arith, counted-number current (c .before .before .before .args .b .now) e .1)
+has-version-requires c κs =
+    let a = c .before .before .before .args in
+    let e = sym (c .before .has-count .ensures) ∙ c .if1 .taken in
+    omega (arith, counted-number (a .v) (a .b .now) e .1, whole-length (a .v))
 
 has-bounds-requires : tie.Need-has-bounds-requires
-has-bounds-requires c κs = let p = c .before in let e = sym (p .before .has-count .ensures) ∙ p .if1 .taken in counted-number current (p .before .before .before .args .b .now) e .1
+has-bounds-requires c κs =
+    let p = c .before in
+    let a = p .before .before .before .args in
+    let e = sym (p .before .has-count .ensures) ∙ p .if1 .taken in
+    counted-number (a .v) (a .b .now) e .1 ∙ sym (whole-length (a .v))
 
 returns : tie.Need-returns
 returns c = let p = c .before .before in let e = sym (p .before .has-count .ensures) ∙ p .if1 .taken in rw e (cc)

@@ -1,0 +1,22 @@
+-- The number of the reply that `move_back` gives, and the target that it leaves.
+use mathlib.Core.Path.{ap, _∙_}
+use Rattle.reply.specs.Reply.{replyNumber}
+use borrow.Author.Needs.{needs}
+use Rattle.capi.proofs.moves.narephon_move_back.Statement.{statement}
+use Rattle.capi.proofs.moves.narephon_move_back.Tie as tie
+
+move-back-requires : tie.Need-move-back-requires
+move-back-requires c κs = search needs
+
+number-requires : tie.Need-number-requires
+number-requires c κs = search needs
+
+same-length : tie.Need-same-length
+same-length c = search needs
+
+returns : tie.Need-returns
+returns c = let r = c .before .before .before .move-back .ensures in (c .number .ensures ∙ ap replyNumber (r .0), r .1)
+
+pub narephon-move-back-spec : {M : Type 1} → statement M
+narephon-move-back-spec =
+    tie.close (tie.spec move-back-requires number-requires same-length returns)
