@@ -1,0 +1,2 @@
+pub mod OneScroll
+pub mod Claims
