@@ -14,7 +14,7 @@ use crate::screens::any_file;
 use crate::seen::Seen;
 use crate::states::{
     any_record_of, bank, damage, hold, lawful, lead, line, old_record_of, record_of, value,
-    PALETTES, SETTINGS,
+    INK_MASKS, PALETTES, SETTINGS,
 };
 use model::reply::DONE;
 use model::{State, BANK_LENGTH, DOTS, OLD_RECORD_LENGTH, RECORD_LENGTH, SCREEN_LENGTH};
@@ -29,7 +29,7 @@ pub struct Job {
 
 /// Every job. Rounds of neighbouring seeds take register numbers, port numbers, bytes, lengths and settings in turn, so
 /// the rounds of a job are multiples of those where each is to be met.
-pub const JOBS: [Job; 17] = [
+pub const JOBS: [Job; 18] = [
     Job {
         name: "packings",
         rounds: 12 * pictures::KINDS,
@@ -79,6 +79,11 @@ pub const JOBS: [Job; 17] = [
         name: "whole screens",
         rounds: SETTINGS / 2,
         run: whole_screens,
+    },
+    Job {
+        name: "ink masks",
+        rounds: INK_MASKS.len() as u64,
+        run: ink_masks,
     },
     Job {
         name: "refused lines",
@@ -380,6 +385,37 @@ fn whole_screens(seed: u64, seen: &mut Seen) -> Done {
     let (mut record, mut banks) = setting(&mut random, seed.wrapping_mul(5));
     for line in 0..256 {
         draw(&mut record, &mut banks, line, DOTS, seen)?;
+    }
+    Ok(())
+}
+
+/// The setting of mode 0 in ULANext's colours, without a tilemap.
+const ULANEXT: u64 = 8;
+
+/// Ink and paper of every attribute under one ink mask, where each index has its own colour and none is transparent.
+fn ink_masks(seed: u64, seen: &mut Seen) -> Done {
+    let mut random = Random::new(seed);
+    let mut state = lawful(&mut random);
+    lead(&mut random, &mut state, ULANEXT);
+    state.plus_on = false;
+    state.ink_mask = INK_MASKS[seed as usize % INK_MASKS.len()];
+    state.ula_clip = [0, 255, 0, 191];
+    state.transparent = 255;
+    for palette in &mut state.palettes {
+        *palette = std::array::from_fn(|index| index as u16);
+    }
+    let mut ula = vec![0x0F; BANK_LENGTH];
+    for (cell, attribute) in ula[0x1800..0x1B00].iter_mut().enumerate() {
+        *attribute = cell as u8;
+    }
+    let mut record = lend(&any_record_of(&mut random, &state));
+    let mut banks = Banks::one(ula);
+    for line in (32..224).step_by(8) {
+        same(
+            "reply",
+            draw(&mut record, &mut banks, line, DOTS, seen)?,
+            DONE,
+        )?;
     }
     Ok(())
 }

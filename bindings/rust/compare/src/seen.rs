@@ -1,5 +1,6 @@
 //! How often each reply, each kind of call and each kind of line was reached.
 
+use crate::states::INK_MASKS;
 use model::reply::{DONE, NOT_A_RECORD};
 use model::ula::{colouring, Colouring};
 use model::{read_old, ula_mode, Mode, State};
@@ -159,6 +160,8 @@ fn drawable(mode: Mode, tiles: Tiles) -> bool {
 pub struct Seen {
     replies: BTreeMap<(Call, u8), u64>,
     lines: BTreeMap<(Mode, Colouring, Tiles), u64>,
+    /// Lines in ULANext's colours, by the ink mask.
+    masks: BTreeMap<u8, u64>,
     kinds: BTreeMap<(Call, &'static str), u64>,
 }
 
@@ -196,6 +199,9 @@ impl Seen {
     pub fn line(&mut self, state: &State) {
         let kind = (ula_mode(state), colouring(state), tiles(state));
         *self.lines.entry(kind).or_default() += 1;
+        if kind.1 == Colouring::UlaNext && !matches!(kind.0, Mode::Lores | Mode::Off) {
+            *self.masks.entry(state.ink_mask).or_default() += 1;
+        }
         if (state.ula_x, state.ula_y) == (state.lores_x, state.lores_y) {
             return;
         }
@@ -265,6 +271,9 @@ impl Seen {
         for (&key, count) in &other.lines {
             *self.lines.entry(key).or_default() += count;
         }
+        for (&key, count) in &other.masks {
+            *self.masks.entry(key).or_default() += count;
+        }
         for (&key, count) in &other.kinds {
             *self.kinds.entry(key).or_default() += count;
         }
@@ -276,6 +285,10 @@ impl Seen {
 
     fn replies_of(&self, call: Call, reply: u8) -> u64 {
         self.replies.get(&(call, reply)).copied().unwrap_or(0)
+    }
+
+    fn lines_under(&self, mask: u8) -> u64 {
+        self.masks.get(&mask).copied().unwrap_or(0)
     }
 
     fn lines_where(&self, wanted: impl Fn(Mode, Colouring, Tiles) -> bool) -> u64 {
@@ -299,6 +312,11 @@ impl Seen {
         for (call, what) in KINDS {
             if self.calls_of((call, what)) == 0 {
                 missing.push(format!("{call:?}: {what}"));
+            }
+        }
+        for mask in INK_MASKS {
+            if self.lines_under(mask) == 0 {
+                missing.push(format!("ULANext, mask {mask}"));
             }
         }
         missing.extend(self.missing_lines());
@@ -334,6 +352,10 @@ impl Seen {
         for (rule, name) in COLOURINGS {
             let lines = self.lines_where(|_, r, _| r == rule);
             let _ = writeln!(text, "{name}: {lines} lines");
+        }
+        for mask in INK_MASKS {
+            let lines = self.lines_under(mask);
+            let _ = writeln!(text, "ULANext, mask {mask}: {lines} lines");
         }
         text + &self.line_report()
     }

@@ -62,13 +62,16 @@ pub fn hold(random: &mut Random, state: &mut State, held: bool) {
     state.half = if held { random.byte() } else { 0 };
 }
 
+/// The masks that $42 takes.
+pub const INK_MASKS: [u8; 8] = [1, 3, 7, 15, 31, 63, 127, 255];
+
 fn ula_fields(random: &mut Random, state: &mut State) {
     state.peripheral = random.byte();
     state.layers = random.byte();
     state.timex = random.byte();
     state.border = random.below(8) as u8;
     scrolls(random, state);
-    state.ink_mask = random.pick(&[1, 3, 7, 15, 31, 63, 127, 255]);
+    state.ink_mask = random.pick(&INK_MASKS);
     state.ula_control = random.byte() & 0xC1;
     state.ula_clip = clip(random, [0, 255, 0, 191]);
 }
@@ -210,7 +213,7 @@ fn lead_tiles(random: &mut Random, state: &mut State, tiles: u64) {
 pub fn value(random: &mut Random) -> u8 {
     match random.below(4) {
         0 => random.below(4) as u8,
-        1 => random.pick(&[1, 3, 7, 15, 31, 63, 127, 255]),
+        1 => random.pick(&INK_MASKS),
         2 => random.pick(&[0, 2, 4, 5, 8, 16, 64, 128, 190, 191, 192, 254]),
         _ => random.byte(),
     }

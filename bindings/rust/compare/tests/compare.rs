@@ -96,10 +96,10 @@ fn every_call_against_the_model() {
     assert!(missing.is_empty(), "never reached: {}", missing.join("; "));
 }
 
-/// 54 replies, 41 kinds of call and 138 kinds of line are asked for.
+/// 54 replies, 41 kinds of call, 8 ink masks and 138 kinds of line are asked for.
 #[test]
 fn what_is_not_reached_is_missed() {
-    assert_eq!(Seen::default().missing().len(), 54 + 41 + 138);
+    assert_eq!(Seen::default().missing().len(), 54 + 41 + 8 + 138);
 }
 
 /// The preview's sample: its record, which is an old one, its ULA bank and its tile bank, in the folder `sample`.
