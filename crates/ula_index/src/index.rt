@@ -20,21 +20,12 @@ pub fn ink_index(k: Scheme, mask: u8, a: u8) -> usize
     }
 }
 
-// The number of bits that a mask leaves to the ink: one number meets this.
+// The number of bits that a mask leaves to the ink, which is its count of ones: each mask is 2 to that, less 1.
 fn ink_width(mask: u8) -> usize
     requires { ⌜ isMask mask ≡ true ⌝ }
     ensures { λ r. ⌜ (2 ^ r ≡ mask + 1) × (r ≤ 8) ⌝ }
 {
-    match mask {
-        1 => 1,
-        3 => 2,
-        7 => 3,
-        15 => 4,
-        31 => 5,
-        63 => 6,
-        127 => 7,
-        _ => 8,
-    }
+    u8::count_ones(mask) as usize
 }
 
 // ULANext's paper. Asks for a mask that leaves the paper bits, which 255 does not.

@@ -1,13 +1,17 @@
 -- The claims on addresses, by cases on the mode: each is arithmetic, once LoRes's step is a quotient and a byte address is read as digits.
-use Prim.Native.Nat.{ℕ, _+_, _*_, _/_, _%_, _<_}
-use mathlib.Core.Path.{_≡_, refl, sym, _∙_}
+-- The claims on masks, from the test of `ula_index` that is computed over all bytes.
+use Prim.Native.Nat.{ℕ, _+_, _*_, _/_, _%_, _^_, _<_}
+use mathlib.Core.Path.{_≡_, refl, sym, ap, _∙_}
 use mathlib.Core.Bool.{Bool, true, false, cond}
 use lib.Dec.{leb}
+use lib.Bits.{bitAnd, and-mask}
+use lib.Count.{ones}
 use native.Mathlib.Omega.{arith}
-use borrow.Author.Tests.{leb-true, leb-false}
+use borrow.Author.Tests.{leb-true, leb-false, ne-eqb}
 use Rattle.ula_mode.specs.declared.modes.Mode.the-variants.{Lores, Standard, Second, HighColour, HighResolution, Missing}
 use Rattle.ula_byte.specs.Bytes.{byteAddress, hiresAddress, loresAddress}
-use Rattle.ula_laws.specs.Claims.{AddressesInBank, AddressesOneToOne, AttributesApart}
+use Rattle.ula_index.proofs.Masks.{mask-ones, ones-mask}
+use Rattle.ula_laws.specs.Claims.{AddressesInBank, AddressesOneToOne, AttributesApart, MasksAreOnes, OnlyMasksAreOnes, InkByOnes, PaperByOnes}
 
 -- the step from row 48 on
 lores-step : (y c : ℕ) → y < 96 → loresAddress y c ≡ y * 128 + c + y / 48 * 0x800
@@ -82,3 +86,17 @@ attributesApart Second y c z d hy hc hz hd e = omega arith
 attributesApart HighColour y c z d hy hc hz hd e = omega arith
 attributesApart HighResolution y c z d hy hc hz hd e = omega arith
 attributesApart Missing y c z d hy hc hz hd e = omega arith
+
+pub masksAreOnes : MasksAreOnes
+masksAreOnes m e = let p = mask-ones m e in omega arith
+
+pub onlyMasksAreOnes : OnlyMasksAreOnes
+onlyMasksAreOnes m p h e = ones-mask m p (omega arith) (omega arith)
+
+pub inkByOnes : InkByOnes
+inkByOnes m a e = ap (bitAnd a) (masksAreOnes m e) ∙ and-mask a (ones m)
+
+pub paperByOnes : PaperByOnes
+paperByOnes m a e h =
+    let q : a / 2 ^ ones m ≡ a / (m + 1) = ap (λ (n : ℕ). a / n) (mask-ones m e) in
+    (ne-eqb m 255 (λ full. omega arith), omega arith)

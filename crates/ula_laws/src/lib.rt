@@ -1,1 +1,2 @@
-// What holds of the ULA's addresses in every mode: statements in specs/Claims.antt, proved in proofs/Claims.antt. There is no code here.
+// What holds of the ULA's addresses in every mode, and of the ink masks: statements in specs/Claims.antt, proved in proofs/Claims.antt.
+// There is no code here.
