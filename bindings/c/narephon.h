@@ -40,10 +40,10 @@ extern "C" {
 #endif
 
 /* The version of this header and of the library that it is delivered with. */
-#define NAREPHON_VERSION "0.3.0"
+#define NAREPHON_VERSION "0.3.1"
 #define NAREPHON_VERSION_MAJOR 0
 #define NAREPHON_VERSION_MINOR 3
-#define NAREPHON_VERSION_PATCH 0
+#define NAREPHON_VERSION_PATCH 1
 
 /* Lengths, in elements. */
 #define NAREPHON_RECORD 2152

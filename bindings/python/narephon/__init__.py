@@ -32,7 +32,7 @@ __all__ = [
     "write_port", "write_register", "write_scr",
 ]
 
-__version__ = "0.3.0"
+__version__ = "0.3.1"
 
 RECORD = 2152
 OLD_RECORD = 2150
