@@ -5,25 +5,27 @@
  * caller keeps and lends. Every call ends with an answer on every input and
  * returns a reply number (NAREPHON_DONE is 0). On a refusal `*value`, `*count`,
  * `*colours` and `*length` are set to 0, and the record and every other buffer
- * stay as they were. Later versions may answer with numbers that are not in this
- * header: a caller takes any number but 0 for a refusal.
+ * stay as they were. `*place` is set always: to the place in the record that 16,
+ * 17 or 18 tells, counted from 0, and to 0 by every other reply. Later versions
+ * may answer with numbers that are not in this header: a caller takes any number
+ * but 0 for a refusal.
  *
  * Records are made in version 2. One of version 1, which libraries before 0.3.0
  * made, is an old record of NAREPHON_OLD_RECORD bytes: it lacks registers $26
  * and $27, which scroll the ULA, and its $32 and $33 stand for them. A call that
  * only reads its record, which is const there, takes both versions; the two
  * moves say which they take. A call that changes its record takes version 2
- * alone: an old record is 13 there, and narephon_move_up makes it new. The
+ * alone: an old record is 17 there, and narephon_move_up makes it new. The
  * `record_len` of a stored record is the length it was stored with: an old one
- * lent as the whole of a buffer of NAREPHON_RECORD bytes is 13 to every call.
+ * lent as the whole of a buffer of NAREPHON_RECORD bytes is 16 to every call.
  *
  * A buffer is a pointer and its number of elements. A pointer is not null,
  * also where the number is 0. What is lent for reading may overlap: `ula` and
  * `tile` may be the same pointer. What is lent for writing (the record of a
  * call that changes it, the `target` of a move, the bank that a screen file is
  * read into, the file that one is written into, `dots`, `map`, `definitions`,
- * and `value`, `count`, `colours` and `length` too) overlaps nothing else that
- * the call is given.
+ * and `value`, `count`, `colours`, `length` and `place` too) overlaps nothing
+ * else that the call is given.
  *
  * The library keeps nothing between calls and has no data of its own that it
  * writes. Calls may run side by side in several threads as long as none writes
@@ -40,10 +42,10 @@ extern "C" {
 #endif
 
 /* The version of this header and of the library that it is delivered with. */
-#define NAREPHON_VERSION "0.3.1"
+#define NAREPHON_VERSION "0.4.0"
 #define NAREPHON_VERSION_MAJOR 0
-#define NAREPHON_VERSION_MINOR 3
-#define NAREPHON_VERSION_PATCH 1
+#define NAREPHON_VERSION_MINOR 4
+#define NAREPHON_VERSION_PATCH 0
 
 /* Lengths, in elements. */
 #define NAREPHON_RECORD 2152
@@ -70,68 +72,82 @@ enum narephon_reply {
     NAREPHON_OUT_OF_BOUNDS = 10,   /* the value is out of its bounds */
     NAREPHON_TOO_MANY_TILES = 11,  /* no map naming at most the number allowed draws the picture */
     NAREPHON_PACKING_BOUNDS = 12,  /* the number allowed is above 256, or the palette offset above 15 */
-    NAREPHON_NOT_RECORD = 13,      /* the bytes are not a record of a lawful state */
+    /* 13 stood for 16, 17 and 18 before 0.4.0, and is not used again. */
     NAREPHON_NO_FORM = 14,         /* the file is not a screen, or the screen has no form as a file */
-    NAREPHON_PAIRS_DIFFER = 15     /* the record cannot be moved back: $26 is not $32, or $27 is not $33 */
+    NAREPHON_PAIRS_DIFFER = 15,    /* the record cannot be moved back: $26 is not $32, or $27 is not $33 */
+    NAREPHON_WRONG_COUNT = 16,     /* the record's stated number is missing, is not the number of bytes following, or is neither 2,148 nor 2,150 */
+    NAREPHON_WRONG_VERSION = 17,   /* the record's version is not read here, or is not the one of its length */
+    NAREPHON_BAD_FIELD = 18        /* a field of the record is out of its bounds */
 };
 
 /* Below, "replies" are the refusals of a call in the order in which they are
  * judged: where several hold, the first is given. No call gives 4: a state is
- * always lent as a record, and a record of an unlawful state is 13. */
+ * always lent as a record, and a record of an unlawful state is 18.
+ *
+ * Where a call reads its record, 16, 17 and 18 stand together. 16 tells place 0,
+ * the stated number: two bytes, high first. 17 tells place 2, the version. 18
+ * tells the place of the first field that is out of its bounds: of a colour, which
+ * has two bytes, that of the first, its high byte; of a held byte that is not 0
+ * while no half is held, the byte's own. */
 
 /* Writes the record of the reset state into `record`, whatever it held;
  * `record_len` is NAREPHON_RECORD. Replies: 3.
  * A refusal leaves `record` as it was. */
 uint8_t narephon_reset(uint8_t *record, size_t record_len);
 
-/* Says whether `record` is a record of a lawful state, of either version: 0, or
- * 13 for every fault, a wrong length included. Replies: 13.
+/* Says whether `record` is a record of a lawful state, of either version, and if
+ * not, what is wrong with it and where, in `*place`. Replies: 16, 17, 18.
  * It changes nothing. The other calls judge their record by themselves. */
-uint8_t narephon_check_record(const uint8_t *record, size_t record_len);
+uint8_t narephon_check_record(const uint8_t *record, size_t record_len, uint32_t *place);
 
 /* Moves an old record up: writes the record of version 2 of its state into
  * `target`, $26 and $27 being its $32 and $33, so that every line is drawn as
- * before. `target_len` is NAREPHON_RECORD; a record of version 2 is 13.
- * Replies: 3, 13.
+ * before. `target_len` is NAREPHON_RECORD; a record of version 2 is 17.
+ * Replies: 3, 16, 17, 18.
  * It leaves `record` as it was, and a refusal `target` too. */
-uint8_t narephon_move_up(const uint8_t *record, size_t record_len, uint8_t *target, size_t target_len);
+uint8_t narephon_move_up(const uint8_t *record, size_t record_len,
+                         uint8_t *target, size_t target_len,
+                         uint32_t *place);
 
 /* Moves a record of version 2 back: writes the old record of its state, which
  * libraries before 0.3.0 take, into `target`. It has one while $26 is $32 and
- * $27 is $33. `target_len` is NAREPHON_OLD_RECORD; an old record is 13.
- * Replies: 3, 13, 15.
+ * $27 is $33. `target_len` is NAREPHON_OLD_RECORD; an old record is 17.
+ * Replies: 3, 16, 17, 18, 15.
  * It leaves `record` as it was, and a refusal `target` too. */
-uint8_t narephon_move_back(const uint8_t *record, size_t record_len, uint8_t *target, size_t target_len);
+uint8_t narephon_move_back(const uint8_t *record, size_t record_len,
+                           uint8_t *target, size_t target_len,
+                           uint32_t *place);
 
-/* Moves the state in `record` one frame on, from 255 to 0. Replies: 13.
+/* Moves the state in `record` one frame on, from 255 to 0.
+ * Replies: 16, 17, 18.
  * A refusal leaves `record` as it was. */
 uint8_t narephon_next_frame(uint8_t *record, size_t record_len);
 
 /* Writes `value` to the register `number` of the state in `record`.
- * Replies: 13, 9, 10.
+ * Replies: 16, 17, 18, 9, 10.
  * A refusal leaves `record` as it was, a half-sent colour still held. */
 uint8_t narephon_write_register(uint8_t *record, size_t record_len, uint8_t number, uint8_t value);
 
 /* Writes `value` to a port of the state in `record`: $00FE, $00FF, $BF3B or
- * $FF3B, by its whole number. Replies: 13, 9, 10.
+ * $FF3B, by its whole number. Replies: 16, 17, 18, 9, 10.
  * A refusal leaves `record` as it was. */
 uint8_t narephon_write_port(uint8_t *record, size_t record_len, uint16_t port, uint8_t value);
 
 /* Reads the register `number` of the state in `record` into `*value`. A read
- * moves nothing in the record. Replies: 13, 9.
+ * moves nothing in the record. Replies: 16, 17, 18, 9.
  * A refusal sets `*value` to 0. */
 uint8_t narephon_read_register(const uint8_t *record, size_t record_len, uint8_t number, uint8_t *value);
 
 /* Reads a port of the state in `record` into `*value`: $FF3B, and $00FF while
  * register $08 bit 2 is set. A read moves nothing in the record.
- * Replies: 13, 9.
+ * Replies: 16, 17, 18, 9.
  * A refusal sets `*value` to 0. */
 uint8_t narephon_read_port(const uint8_t *record, size_t record_len, uint16_t port, uint8_t *value);
 
 /* Draws line 0 to 255 of the state in `record` into `dots`: NAREPHON_DOTS
  * nine-bit colours RRRGGGBBB, two for each pixel of a surface 320 wide.
  * `ula_len` and `tile_len` are NAREPHON_BANK; the two banks may be the same.
- * Replies: 1, 2, 3, 13, 6, 7, 5, 8.
+ * Replies: 1, 2, 3, 16, 17, 18, 6, 7, 5, 8.
  * A refusal leaves `dots` as it was. */
 uint8_t narephon_draw(const uint8_t *record, size_t record_len,
                       const uint8_t *ula, size_t ula_len,
@@ -147,7 +163,7 @@ uint8_t narephon_draw(const uint8_t *record, size_t record_len,
  * is set, port $FF becomes 0, 2 or the file's byte. With colours ULAplus goes on
  * and has them as its registers, without it goes off; nothing else changes.
  * `*colours` becomes the place in `file` of its 64 colours, 0 where it has none.
- * Replies: 2, 13, 14.
+ * Replies: 2, 16, 17, 18, 14.
  * A refusal leaves `record` and `bank` as they were and sets `*colours` to 0. */
 uint8_t narephon_read_scr(uint8_t *record, size_t record_len,
                           uint8_t *bank, size_t bank_len,
@@ -159,7 +175,7 @@ uint8_t narephon_read_scr(uint8_t *record, size_t record_len,
  * bytes; those past it stay. `bank_len` is NAREPHON_BANK, `file_len`
  * NAREPHON_SCREEN, the longest form. There is a form for modes 0, 2 and 6 with
  * LoRes off; the ULAplus registers are its colours where ULAplus is on.
- * Replies: 2, 3, 13, 14.
+ * Replies: 2, 3, 16, 17, 18, 14.
  * A refusal leaves `file` as it was and sets `*length` to 0. */
 uint8_t narephon_write_scr(const uint8_t *record, size_t record_len,
                            const uint8_t *bank, size_t bank_len,

@@ -9,7 +9,7 @@ static uint8_t old[NAREPHON_OLD_RECORD], kept[NAREPHON_OLD_RECORD], moved[NAREPH
 static uint8_t file[NAREPHON_SCREEN], written[NAREPHON_SCREEN], screen[NAREPHON_BANK];
 static uint8_t picture[NAREPHON_PICTURE], map[NAREPHON_MAP], definitions[NAREPHON_DEFINITIONS];
 static uint16_t dots[NAREPHON_DOTS];
-static uint32_t colours, length;
+static uint32_t colours, length, place;
 static int failures;
 
 static void same(const char *what, uint32_t got, uint32_t wanted) {
@@ -17,6 +17,12 @@ static void same(const char *what, uint32_t got, uint32_t wanted) {
         printf("%s: %u, not %u\n", what, (unsigned)got, (unsigned)wanted);
         failures++;
     }
+}
+
+/* The reply of a check or of a move, and the place that it told. */
+static void told(const char *what, uint8_t got, uint8_t reply, uint32_t where) {
+    same(what, got, reply);
+    same(what, place, where);
 }
 
 static void registers(void) {
@@ -33,28 +39,91 @@ static void registers(void) {
     same("its value", value, 0);
     same("port", narephon_write_port(record, sizeof record, 0xFE, 2), NAREPHON_DONE);
     same("frame", narephon_next_frame(record, sizeof record), NAREPHON_DONE);
-    same("frame, short", narephon_next_frame(record, 3), NAREPHON_NOT_RECORD);
+    same("frame, short", narephon_next_frame(record, 3), NAREPHON_WRONG_COUNT);
+}
+
+static uint8_t check(const uint8_t *bytes, size_t record_len) {
+    place = 99;
+    return narephon_check_record(bytes, record_len, &place);
+}
+
+/* A byte that a place cannot have, and what is told of it. */
+struct fault {
+    size_t at;
+    uint8_t byte, reply;
+    uint32_t place;
+};
+
+/* Version 2: the number, the version, $43, $42, $33 and $27, the flag, the byte that none holds, the border, ULAplus, and the first and
+ * last colours of palettes. */
+static const struct fault faults[] = {
+    {0, 9, NAREPHON_WRONG_COUNT, 0}, {1, 100, NAREPHON_WRONG_COUNT, 0},
+    {2, 1, NAREPHON_WRONG_VERSION, 2}, {2, 3, NAREPHON_WRONG_VERSION, 2},
+    {6, 16, NAREPHON_BAD_FIELD, 6}, {8, 5, NAREPHON_BAD_FIELD, 8},
+    {20, 192, NAREPHON_BAD_FIELD, 20}, {22, 192, NAREPHON_BAD_FIELD, 22},
+    {33, 2, NAREPHON_BAD_FIELD, 33}, {34, 1, NAREPHON_BAD_FIELD, 34},
+    {35, 8, NAREPHON_BAD_FIELD, 35}, {38, 2, NAREPHON_BAD_FIELD, 38},
+    {104, 2, NAREPHON_BAD_FIELD, 104}, {614, 2, NAREPHON_BAD_FIELD, 614},
+    {1128, 255, NAREPHON_BAD_FIELD, 1128}, {2150, 2, NAREPHON_BAD_FIELD, 2150},
+};
+
+/* Version 1, whose places from the clips on are two less. */
+static const struct fault old_faults[] = {
+    {1, 102, NAREPHON_WRONG_COUNT, 0}, {2, 2, NAREPHON_WRONG_VERSION, 2},
+    {20, 192, NAREPHON_BAD_FIELD, 20}, {29, 4, NAREPHON_BAD_FIELD, 29},
+    {31, 2, NAREPHON_BAD_FIELD, 31}, {32, 1, NAREPHON_BAD_FIELD, 32},
+    {35, 128, NAREPHON_BAD_FIELD, 35}, {102, 2, NAREPHON_BAD_FIELD, 102},
+    {2148, 2, NAREPHON_BAD_FIELD, 2148},
+};
+
+/* Each alone, then with all that come behind it: the first is told. */
+static void faulty(uint8_t *bytes, size_t record_len, const struct fault *list, size_t count) {
+    uint8_t own[NAREPHON_RECORD];
+    memcpy(own, bytes, record_len);
+    for (size_t i = 0; i < count; i++) {
+        bytes[list[i].at] = list[i].byte;
+        told("one fault", check(bytes, record_len), list[i].reply, list[i].place);
+        memcpy(bytes, own, record_len);
+    }
+    for (size_t i = count; i-- > 0;) {
+        bytes[list[i].at] = list[i].byte;
+        told("several faults", check(bytes, record_len), list[i].reply, list[i].place);
+    }
+    memcpy(bytes, own, record_len);
 }
 
 static void records(void) {
+    const uint8_t none[2] = {0, 0};
     memcpy(before, record, sizeof record);
-    same("check", narephon_check_record(record, sizeof record), NAREPHON_DONE);
-    same("check, short", narephon_check_record(record, sizeof record - 1), NAREPHON_NOT_RECORD);
+    told("check", check(record, sizeof record), NAREPHON_DONE, 0);
+    told("check, short", check(record, sizeof record - 1), NAREPHON_WRONG_COUNT, 0);
+    told("check, empty", check(record, 0), NAREPHON_WRONG_COUNT, 0);
+    told("check, one byte", check(record, 1), NAREPHON_WRONG_COUNT, 0);
+    told("check, none following", check(none, sizeof none), NAREPHON_WRONG_COUNT, 0);
     same("record kept", (uint32_t)memcmp(before, record, sizeof record), 0);
-    before[2] = 3;
-    same("check, version 3", narephon_check_record(before, sizeof before), NAREPHON_NOT_RECORD);
+    faulty(before, sizeof before, faults, sizeof faults / sizeof *faults);
 }
 
 static void write_register(uint8_t number, uint8_t value) {
     same("write", narephon_write_register(record, sizeof record, number, value), NAREPHON_DONE);
 }
 
+static uint8_t up(const uint8_t *bytes, size_t record_len, size_t target_len) {
+    place = 99;
+    return narephon_move_up(bytes, record_len, moved, target_len, &place);
+}
+
+static uint8_t back(const uint8_t *bytes, size_t record_len, size_t target_len) {
+    place = 99;
+    return narephon_move_back(bytes, record_len, old, target_len, &place);
+}
+
 static uint8_t move_up(size_t target_len) {
-    return narephon_move_up(old, sizeof old, moved, target_len);
+    return up(old, sizeof old, target_len);
 }
 
 static uint8_t move_back(size_t target_len) {
-    return narephon_move_back(record, sizeof record, old, target_len);
+    return back(record, sizeof record, target_len);
 }
 
 static void write_scrolls(uint8_t lores_x, uint8_t lores_y, uint8_t ula_x, uint8_t ula_y) {
@@ -69,33 +138,48 @@ static void moves(void) {
     write_scrolls(1, 2, 3, 4);
     for (uint8_t i = 0; i < 4; i++) same("place of a scroll", record[19 + i], i + 1u);
     write_scrolls(13, 65, 13, 65);
-    same("back", move_back(sizeof old), NAREPHON_DONE);
+    told("back", move_back(sizeof old), NAREPHON_DONE, 0);
     same("how many follow", old[0] * 256u + old[1], 2148);
     same("version", old[2], 1);
     same("up to $33", (uint32_t)memcmp(old + 3, record + 3, 18), 0);
     same("from the clips on", (uint32_t)memcmp(old + 21, record + 23, 2129), 0);
-    same("up", move_up(sizeof moved), NAREPHON_DONE);
+    told("up", move_up(sizeof moved), NAREPHON_DONE, 0);
     same("up again", (uint32_t)memcmp(moved, record, sizeof record), 0);
 }
 
 /* The refusals of moves in their order; the target, every byte of it 7, stays. */
-static void refused_moves(void) {
+static void refused_up(void) {
     memset(moved, 7, sizeof moved);
-    same("up, short", move_up(sizeof moved - 1), NAREPHON_BUFFER_LENGTH);
-    same("up, short and none", narephon_move_up(record, 3, moved, 3), NAREPHON_BUFFER_LENGTH);
-    same("up, of version 2", narephon_move_up(record, sizeof record, moved, sizeof moved), NAREPHON_NOT_RECORD);
+    told("up, short", move_up(sizeof moved - 1), NAREPHON_BUFFER_LENGTH, 0);
+    told("up, short and none", up(record, 3, 3), NAREPHON_BUFFER_LENGTH, 0);
+    told("up, none", up(record, 3, sizeof moved), NAREPHON_WRONG_COUNT, 0);
+    told("up, of version 2", up(record, sizeof record, sizeof moved), NAREPHON_WRONG_VERSION, 2);
+    record[35] = 8;
+    told("up, of version 2 and border 8", up(record, sizeof record, sizeof moved), NAREPHON_WRONG_VERSION, 2);
+    record[35] = 2;
+    old[33] = 8;
+    told("up, border 8", move_up(sizeof moved), NAREPHON_BAD_FIELD, 33);
+    old[33] = 2;
     for (size_t i = 0; i < sizeof moved; i++) same("target of up kept", moved[i], 7);
+    told("up", move_up(sizeof moved), NAREPHON_DONE, 0);
+}
+
+static void refused_back(void) {
     memcpy(kept, old, sizeof old);
     memset(old, 7, sizeof old);
-    same("back, short", move_back(sizeof old - 1), NAREPHON_BUFFER_LENGTH);
-    same("back, of an old one", narephon_move_back(kept, sizeof kept, old, sizeof old), NAREPHON_NOT_RECORD);
+    told("back, short", move_back(sizeof old - 1), NAREPHON_BUFFER_LENGTH, 0);
+    told("back, none", back(record, 3, sizeof old), NAREPHON_WRONG_COUNT, 0);
+    told("back, of an old one", back(kept, sizeof kept, sizeof old), NAREPHON_WRONG_VERSION, 2);
     write_register(0x26, 14);
-    same("back, X differs", move_back(sizeof old), NAREPHON_PAIRS_DIFFER);
+    told("back, X differs", move_back(sizeof old), NAREPHON_PAIRS_DIFFER, 0);
+    record[35] = 8;
+    told("back, border 8 and X differs", move_back(sizeof old), NAREPHON_BAD_FIELD, 35);
+    record[35] = 2;
     write_register(0x26, 13);
     write_register(0x27, 66);
-    same("back, Y differs", move_back(sizeof old), NAREPHON_PAIRS_DIFFER);
+    told("back, Y differs", move_back(sizeof old), NAREPHON_PAIRS_DIFFER, 0);
     same("$27 above 191", narephon_write_register(record, sizeof record, 0x27, 192), NAREPHON_OUT_OF_BOUNDS);
-    same("back, short and Y differs", move_back(3), NAREPHON_BUFFER_LENGTH);
+    told("back, short and Y differs", move_back(3), NAREPHON_BUFFER_LENGTH, 0);
     for (size_t i = 0; i < sizeof old; i++) same("target of back kept", old[i], 7);
     write_register(0x27, 65);
 }
@@ -113,7 +197,7 @@ static void scrolled(void) {
     same("draw, new", draw_by(record, sizeof record), NAREPHON_DONE);
     same("its first dot", dots[64], 448);
     same("its third", dots[66], 0);
-    same("back", move_back(sizeof old), NAREPHON_DONE);
+    told("back", move_back(sizeof old), NAREPHON_DONE, 0);
     memset(dots, 0, sizeof dots);
     same("draw, old", draw_by(old, sizeof old), NAREPHON_DONE);
     same("its first dot", dots[64], 448);
@@ -130,7 +214,8 @@ static void old_records(void) {
     memcpy(kept, old, sizeof old);
     memset(file, 1, sizeof file);
     colours = length = 99;
-    same("check", narephon_check_record(old, sizeof old), NAREPHON_DONE);
+    told("check", check(old, sizeof old), NAREPHON_DONE, 0);
+    faulty(old, sizeof old, old_faults, sizeof old_faults / sizeof *old_faults);
     same("read of $26", narephon_read_register(old, sizeof old, 0x26, &value), NAREPHON_DONE);
     same("its value", value, 13);
     same("read of $27", narephon_read_register(old, sizeof old, 0x27, &value), NAREPHON_DONE);
@@ -139,10 +224,10 @@ static void old_records(void) {
     same("screen", narephon_write_scr(old, sizeof old, bank, sizeof bank, written, sizeof written, &length),
          NAREPHON_DONE);
     same("its length", length, 6912);
-    same("frame", narephon_next_frame(old, sizeof old), NAREPHON_NOT_RECORD);
-    same("register", narephon_write_register(old, sizeof old, 0x14, 7), NAREPHON_NOT_RECORD);
-    same("port", narephon_write_port(old, sizeof old, 0xFE, 2), NAREPHON_NOT_RECORD);
-    same("file", narephon_read_scr(old, sizeof old, screen, sizeof screen, file, 6912, &colours), NAREPHON_NOT_RECORD);
+    same("frame", narephon_next_frame(old, sizeof old), NAREPHON_WRONG_VERSION);
+    same("register", narephon_write_register(old, sizeof old, 0x14, 7), NAREPHON_WRONG_VERSION);
+    same("port", narephon_write_port(old, sizeof old, 0xFE, 2), NAREPHON_WRONG_VERSION);
+    same("file", narephon_read_scr(old, sizeof old, screen, sizeof screen, file, 6912, &colours), NAREPHON_WRONG_VERSION);
     same("its colours", colours, 0);
     for (size_t i = 0; i < sizeof screen; i++) same("bank kept", screen[i], 0);
     same("reset", narephon_reset(old, sizeof old), NAREPHON_BUFFER_LENGTH);
@@ -213,7 +298,7 @@ static void refused_screens(void) {
     memcpy(before, record, sizeof record);
     same("read, short bank", read_screen(3, 16383, 6911), NAREPHON_BANK_LENGTH);
     same("its colours", colours, 0);
-    same("read, short record", read_screen(3, sizeof screen, 6911), NAREPHON_NOT_RECORD);
+    same("read, short record", read_screen(3, sizeof screen, 6911), NAREPHON_WRONG_COUNT);
     same("its colours", colours, 0);
     same("read, short file", read_screen(sizeof record, sizeof screen, 6911), NAREPHON_NO_FORM);
     same("its colours", colours, 0);
@@ -224,7 +309,7 @@ static void refused_screens(void) {
     same("its length", length, 0);
     same("write, short file", write_screen(3, sizeof screen, 12352), NAREPHON_BUFFER_LENGTH);
     same("its length", length, 0);
-    same("write, short record", write_screen(3, sizeof screen, sizeof written), NAREPHON_NOT_RECORD);
+    same("write, short record", write_screen(3, sizeof screen, sizeof written), NAREPHON_WRONG_COUNT);
     same("its length", length, 0);
     same("write, LoRes", write_screen(sizeof record, sizeof screen, sizeof written), NAREPHON_NO_FORM);
     same("its length", length, 0);
@@ -243,7 +328,8 @@ int main(void) {
     registers();
     records();
     moves();
-    refused_moves();
+    refused_up();
+    refused_back();
     scrolled();
     old_records();
     pictures();

@@ -1,6 +1,6 @@
 """A bot's states, kept by member number. Two members share a nickname; one has sent half a nine-bit colour, the other
-sends a byte of her own, and neither reaches the other. A third has an old record, which is moved up when it is loaded.
-The bot then writes a preview of a member's screen.
+sends a byte of her own, and neither reaches the other. A third has an old record, which is moved up when it is loaded,
+and a fourth a damaged one, of which the bot says what is wrong and where. It then writes a preview of a member's screen.
 
     python3 bot.py [PNG-FILE]
 
@@ -60,6 +60,15 @@ def old_record() -> bytes:
     return narephon.move_back(record)
 
 
+def tell_damaged(bot: Bot) -> None:
+    """A border of 8, where 7 is the most; it stands at 33 in an old record."""
+    stored = old_record()
+    try:
+        bot.load(10, stored[:33] + bytes([8]) + stored[34:])
+    except narephon.Refused as refused:
+        print("member 10 has a damaged record:", refused)
+
+
 def inks_and_papers() -> bytes:
     """A ULA bank that shows each ink, from top to bottom, on each paper, from left to right."""
     bitmap = bytes([0xF0]) * 6144
@@ -73,6 +82,7 @@ def main() -> None:
     bot.load(9, old_record())
     bot.write(9, 0x26, 24)  # a register that her old record did not have
     print("member 9 scrolls by", bot.read(9, 0x26), "and", bot.read(9, 0x27))
+    tell_damaged(bot)
     for first in (0, 16):  # the inks, and the papers with the border
         bot.write(8, 0x40, first)
         for colour in COLOURS:

@@ -4,14 +4,15 @@ A member's whole video state is a record of ``RECORD`` bytes that the caller kee
 (``bytes``, ``bytearray`` or ``memoryview``) and gives ``bytes`` back; what it is given it never changes. The colours of
 a screen file alone are given as a part of the file itself, a ``memoryview``. A refused call raises ``Refused``, which
 holds the ``Reply`` and prints its number and sentence; where several refusals hold, it is the first in the order that a
-function names. An argument of another type raises ``TypeError``, and a number that the library's parameter cannot hold
-``ValueError``, before the library is called. Nothing is kept between calls, so that calls may run side by side in
-threads.
+function names. Bytes that are no record are refused by reply 16, 17 or 18, and ``check_record``, ``load_record`` and the
+two moves tell the place as well. An argument of another type raises ``TypeError``, and a number that the library's
+parameter cannot hold ``ValueError``, before the library is called. Nothing is kept between calls, so that calls may run
+side by side in threads.
 
 Records are made in version 2. One of version 1, which versions before 0.3.0 made, is an old record of ``OLD_RECORD``
 bytes: it lacks registers $26 and $27, which scroll the ULA, and its $32 and $33 stand for them. A function that only
 reads a record, but for the two moves, takes both versions. One that gives a changed record back takes version 2 alone,
-and an old record is reply 13 there: ``load_record`` makes it new.
+and an old record is reply 17 there: ``load_record`` makes it new.
 
 The library is the file that the environment variable NAREPHON_LIBRARY names; else the one inside the package, as
 installed; else that of the checkout in which the package stands, as ``bindings/build`` makes it.
@@ -23,7 +24,7 @@ import ctypes
 from typing import Any, NamedTuple, Union
 
 from . import _library, _png
-from .replies import Refused, Reply
+from .replies import PLACED, Refused, Reply
 
 __all__ = [
     "BANK", "DEFINITIONS", "DOTS", "MAP", "OLD_RECORD", "PICTURE", "RECORD", "SCREEN", "BytesLike", "Packing",
@@ -32,7 +33,7 @@ __all__ = [
     "write_port", "write_register", "write_scr",
 ]
 
-__version__ = "0.3.1"
+__version__ = "0.4.0"
 
 RECORD = 2152
 OLD_RECORD = 2150
@@ -98,10 +99,12 @@ def _within(bits: int, **numbers: int) -> None:
             raise ValueError(f"{name} is {number}, which {bits} unsigned bits cannot hold")
 
 
-def _answered(reply: int) -> None:
-    """Raises ``Refused`` for every reply but 0."""
+def _answered(reply: int, place: ctypes.c_uint32 | None = None) -> None:
+    """Raises ``Refused`` for every reply but 0, with the place where the reply tells one: the call sets 0 also where
+    nothing is told."""
     if reply:
-        raise Refused(Reply(reply))
+        refused = Reply(reply)
+        raise Refused(refused, place.value if place is not None and refused in PLACED else None)
 
 
 def reset() -> bytes:
@@ -111,28 +114,36 @@ def reset() -> bytes:
     return bytes(record)
 
 
+def _checked(record: BytesLike) -> tuple[int, ctypes.c_uint32]:
+    """The reply to a record, and the place that was set."""
+    place = ctypes.c_uint32()
+    return _narephon.narephon_check_record(*_lent("record", record), ctypes.byref(place)), place
+
+
 def check_record(record: BytesLike) -> None:
     """Judges whether the bytes are a record of a lawful state, of either version, and changes nothing.
 
-    Raises ``Refused`` with reply 13 where they are not, a wrong length included. The other functions judge their record
-    by themselves.
+    Raises ``Refused`` with reply 16, 17 or 18 where they are not, and the place of what is wrong. The other functions
+    judge their record by themselves.
     """
-    _answered(_narephon.narephon_check_record(*_lent("record", record)))
+    _answered(*_checked(record))
 
 
 def is_record(record: BytesLike) -> bool:
     """Whether the bytes are a record of a lawful state, as ``check_record`` judges; never refused, changes nothing."""
-    return _narephon.narephon_check_record(*_lent("record", record)) == Reply.DONE
+    return _checked(record)[0] == Reply.DONE
 
 
 def move_up(record: BytesLike) -> bytes:
     """An old record moved up: the record of version 2 of its state, $26 and $27 being its $32 and $33, so that every
     line is drawn as before.
 
-    Raises ``Refused`` with reply 13, for a record of version 2 too; the record given stays as it was.
+    Raises ``Refused`` with reply 16, 17 or 18 and the place, a record of version 2 with 17; the record given stays as it
+    was.
     """
     target, length = _lent("target", bytes(RECORD))
-    _answered(_narephon.narephon_move_up(*_lent("record", record), target, length))
+    place = ctypes.c_uint32()
+    _answered(_narephon.narephon_move_up(*_lent("record", record), target, length, ctypes.byref(place)), place)
     return bytes(target)
 
 
@@ -140,16 +151,18 @@ def move_back(record: BytesLike) -> bytes:
     """A record of version 2 moved back: the old record of its state, which versions before 0.3.0 take. It has one while
     $26 is $32 and $27 is $33.
 
-    Raises ``Refused`` with reply 13, for an old record too, or 15; the record given stays as it was.
+    Raises ``Refused`` with reply 16, 17 or 18 and the place, an old record with 17; or with reply 15, without one. The
+    record given stays as it was.
     """
     target, length = _lent("target", bytes(OLD_RECORD))
-    _answered(_narephon.narephon_move_back(*_lent("record", record), target, length))
+    place = ctypes.c_uint32()
+    _answered(_narephon.narephon_move_back(*_lent("record", record), target, length, ctypes.byref(place)), place)
     return bytes(target)
 
 
 def load_record(record: BytesLike) -> bytes:
     """A stored record, of either version, as one that every function takes: an old one moved up, one of version 2 as it
-    is. Raises ``Refused`` with reply 13; the record given stays as it was.
+    is. Raises ``Refused`` as ``check_record`` does; the record given stays as it was.
     """
     check_record(record)
     stored = bytes(record)
@@ -159,7 +172,7 @@ def load_record(record: BytesLike) -> bytes:
 def next_frame(record: BytesLike) -> bytes:
     """The record one frame on, from 255 to 0.
 
-    Raises ``Refused`` with reply 13; the record given stays as it was.
+    Raises ``Refused`` with reply 16, 17 or 18; the record given stays as it was.
     """
     after, length = _lent("record", record)
     _answered(_narephon.narephon_next_frame(after, length))
@@ -169,7 +182,7 @@ def next_frame(record: BytesLike) -> bytes:
 def write_register(record: BytesLike, number: int, value: int) -> bytes:
     """The record after a write of a byte, ``value``, to the register of that ``number``.
 
-    Raises ``Refused`` with reply 13, 9 or 10; the record given stays as it was, a half-sent colour included.
+    Raises ``Refused`` with reply 16, 17, 18, 9 or 10; the record given stays as it was, a half-sent colour included.
     """
     _within(8, number=number, value=value)
     after, length = _lent("record", record)
@@ -180,7 +193,7 @@ def write_register(record: BytesLike, number: int, value: int) -> bytes:
 def write_port(record: BytesLike, port: int, value: int) -> bytes:
     """The record after a write of a byte, ``value``, to a port: $FE, $FF, $BF3B or $FF3B.
 
-    Raises ``Refused`` with reply 13, 9 or 10; the record given stays as it was.
+    Raises ``Refused`` with reply 16, 17, 18, 9 or 10; the record given stays as it was.
     """
     _within(16, port=port)
     _within(8, value=value)
@@ -192,7 +205,7 @@ def write_port(record: BytesLike, port: int, value: int) -> bytes:
 def read_register(record: BytesLike, number: int) -> int:
     """The byte that the register of that ``number`` reads as. A read moves nothing.
 
-    Raises ``Refused`` with reply 13 or 9.
+    Raises ``Refused`` with reply 16, 17, 18 or 9.
     """
     _within(8, number=number)
     value = ctypes.c_uint8()
@@ -203,7 +216,7 @@ def read_register(record: BytesLike, number: int) -> int:
 def read_port(record: BytesLike, port: int) -> int:
     """The byte that a port reads as: $FF3B, or $FF while register $08 bit 2 is set. A read moves nothing.
 
-    Raises ``Refused`` with reply 13 or 9.
+    Raises ``Refused`` with reply 16, 17, 18 or 9.
     """
     _within(16, port=port)
     value = ctypes.c_uint8()
@@ -227,7 +240,7 @@ def draw(record: BytesLike, ula: BytesLike, tile: BytesLike, line: int) -> list[
     """A line, 0 to 255, of a member's screen as 640 nine-bit colours.
 
     ``ula`` and ``tile`` are the two banks of ``BANK`` bytes, which may be the same. Raises ``Refused`` with reply 1, 2,
-    13, 6, 7, 5 or 8; record and banks stay as they were, as they do where the line is drawn.
+    16, 17, 18, 6, 7, 5 or 8; record and banks stay as they were, as they do where the line is drawn.
     """
     _within(32, line=line)
     return _dots(_screen(record, ula, tile), line)
@@ -245,7 +258,7 @@ def preview_png(record: BytesLike, ula: BytesLike, tile: BytesLike) -> bytes:
     """A member's whole screen as a PNG file, 640 × 512: each of the 256 lines twice, in the colours' screen values.
 
     ``ula`` and ``tile`` are the two banks of ``BANK`` bytes, which may be the same. Raises ``Refused`` as ``draw``
-    does, with reply 2, 13, 6, 7, 5 or 8, before anything is made; record and banks stay as they were.
+    does, with reply 2, 16, 17, 18, 6, 7, 5 or 8, before anything is made; record and banks stay as they were.
     """
     screen = _screen(record, ula, tile)
     lines = [_dots(screen, line) for line in range(_LINES)]
@@ -263,7 +276,8 @@ def read_scr(record: BytesLike, bank: BytesLike, file: BytesLike) -> Screen:
     colours ULAplus goes on and has them as its registers, without it goes off. ``colours`` is a ``memoryview`` of the
     file's own last 64 bytes, empty where it has none; a ``bytearray`` cannot be resized while it lives.
 
-    Raises ``Refused`` with reply 2, 13 or 14; record, bank and file stay as they were, as they do where it is read.
+    Raises ``Refused`` with reply 2, 16, 17, 18 or 14; record, bank and file stay as they were, as they do where it is
+    read.
     """
     after, length = _lent("record", record)
     filled, bank_length = _lent("bank", bank)
@@ -277,8 +291,8 @@ def read_scr(record: BytesLike, bank: BytesLike, file: BytesLike) -> Screen:
 def write_scr(record: BytesLike, bank: BytesLike) -> bytes:
     """The screen file of a record and a bank of ``BANK`` bytes, in the form of its mode, 0, 2 or 6, with LoRes off.
 
-    The ULAplus registers are its colours where ULAplus is on. Raises ``Refused`` with reply 2, 13 or 14; record and
-    bank stay as they were, as they do where it is written.
+    The ULAplus registers are its colours where ULAplus is on. Raises ``Refused`` with reply 2, 16, 17, 18 or 14; record
+    and bank stay as they were, as they do where it is written.
     """
     file, file_length = _lent("file", bytes(SCREEN))
     length = ctypes.c_uint32()

@@ -14,9 +14,9 @@ _BYTE = ctypes.POINTER(ctypes.c_uint8)
 _WORD = ctypes.POINTER(ctypes.c_uint32)
 _SIGNATURES = {
     "narephon_reset": [*_BYTES],
-    "narephon_check_record": [*_BYTES],
-    "narephon_move_up": [*_BYTES, *_BYTES],
-    "narephon_move_back": [*_BYTES, *_BYTES],
+    "narephon_check_record": [*_BYTES, _WORD],
+    "narephon_move_up": [*_BYTES, *_BYTES, _WORD],
+    "narephon_move_back": [*_BYTES, *_BYTES, _WORD],
     "narephon_next_frame": [*_BYTES],
     "narephon_write_register": [*_BYTES, ctypes.c_uint8, ctypes.c_uint8],
     "narephon_write_port": [*_BYTES, ctypes.c_uint16, ctypes.c_uint8],

@@ -4,13 +4,13 @@ from __future__ import annotations
 
 from enum import IntEnum
 
-_UNKNOWN = "a reply that this wrapper does not know: the library is newer than it"
+_UNKNOWN = "a reply that this wrapper does not know: the library is of another version"
 
 
 class Reply(IntEnum):
     """The answer of a call: its number, and in ``sentence`` what it says.
 
-    Any other byte is a reply too, one of a newer library, with a name of its own and a sentence that says so.
+    Any other byte is a reply too, one of another version, with a name of its own and a sentence that says so.
     """
 
     sentence: str
@@ -34,9 +34,11 @@ class Reply(IntEnum):
     OUT_OF_BOUNDS = 10, "the value is out of its bounds"
     TOO_MANY_TILES = 11, "no map naming at most the number allowed draws the picture"
     PACKING_BOUNDS = 12, "the number allowed is above 256, or the palette offset above 15"
-    NOT_RECORD = 13, "the bytes are not a record of a lawful state"
     NO_FORM = 14, "the file is not a screen, or the screen has no form as a file"
     PAIRS_DIFFER = 15, "the record cannot be moved back: $26 is not $32, or $27 is not $33"
+    WRONG_COUNT = 16, "the record's stated number is missing, is not the number of bytes following, or is neither 2,148 nor 2,150"
+    WRONG_VERSION = 17, "the record's version is not read here, or is not the one of its length"
+    BAD_FIELD = 18, "a field of the record is out of its bounds"
 
     @classmethod
     def _missing_(cls, value: object) -> Reply | None:
@@ -50,12 +52,23 @@ class Reply(IntEnum):
         return reply
 
 
-class Refused(Exception):
-    """A call that was refused and changed nothing; ``reply`` says why."""
+# The replies that say where in a record something is wrong.
+PLACED = frozenset((Reply.WRONG_COUNT, Reply.WRONG_VERSION, Reply.BAD_FIELD))
 
-    def __init__(self, reply: Reply) -> None:
-        super().__init__(reply)
+
+class Refused(Exception):
+    """A call that was refused and changed nothing; ``reply`` says why.
+
+    ``place`` says where in the record, counted from 0, for replies 16, 17 and 18 of ``check_record``, ``load_record``
+    and the two moves: 0, the stated number; 2, the version; or the place of the first field out of its bounds, which of
+    a colour is its high byte. It is None where nothing is told.
+    """
+
+    def __init__(self, reply: Reply, place: int | None = None) -> None:
+        super().__init__(reply, place)
         self.reply = reply
+        self.place = place
 
     def __str__(self) -> str:
-        return f"refused {int(self.reply)}: {self.reply.sentence}"
+        where = "" if self.place is None else f" (place {self.place})"
+        return f"refused {int(self.reply)}: {self.reply.sentence}{where}"

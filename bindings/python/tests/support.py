@@ -23,16 +23,26 @@ NAME = "libnarephon.so"
 
 
 class Case(unittest.TestCase):
-    def refused(self, reply: Reply, call: Callable[..., Any], *arguments: Any) -> None:
+    def refused_at(self, reply: Reply, place: int | None, call: Callable[..., Any], *arguments: Any) -> None:
         with self.assertRaises(Refused) as caught:
             call(*arguments)
         self.assertIs(caught.exception.reply, reply)
+        self.assertEqual(caught.exception.place, place)
+
+    def refused(self, reply: Reply, call: Callable[..., Any], *arguments: Any) -> None:
+        """Refused with no place told."""
+        self.refused_at(reply, None, call, *arguments)
 
 
 def sample() -> tuple[bytes, bytes, bytes]:
     """The example screen: its record, which is an old one, its ULA bank and its tile bank."""
     folder = REPOSITORY / "bindings" / "rust" / "compare" / "sample"
     return (folder / "record").read_bytes(), (folder / "ula").read_bytes(), (folder / "tile").read_bytes()
+
+
+def replaced(record: bytes, place: int, byte: int) -> bytes:
+    """The record with one byte replaced."""
+    return record[:place] + bytes([byte]) + record[place + 1:]
 
 
 def written(record: bytes, *writes: tuple[int, int]) -> bytes:

@@ -26,6 +26,7 @@ class Examples(InFolder):
         self.assertEqual(self.bot(), [
             "member 8 finished her colour: index 13", "member 7 still holds his half: index 12",
             "member 7: colour 454", "member 8: colour 57", "member 9 scrolls by 24 and 40",
+            "member 10 has a damaged record: refused 18: a field of the record is out of its bounds (place 33)",
             "member 8: preview in preview.png",
         ])
 

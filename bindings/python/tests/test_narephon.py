@@ -7,7 +7,7 @@ import unittest
 
 import narephon
 from narephon import Reply
-from support import REPOSITORY, Case
+from support import REPOSITORY, Case, replaced
 
 BANK = bytes(16384)
 
@@ -35,17 +35,51 @@ class Records(Case):
         record = narephon.reset()
         self.refused(Reply.NO_REGISTER, narephon.write_register, record, 0, 0)
         self.refused(Reply.OUT_OF_BOUNDS, narephon.write_register, record, 0x42, 5)
-        self.refused(Reply.NOT_RECORD, narephon.write_register, record[:-1], 0x42, 7)
-        self.refused(Reply.NOT_RECORD, narephon.next_frame, b"")
+        self.refused(Reply.WRONG_COUNT, narephon.write_register, record[:-1], 0x42, 7)
+        self.refused(Reply.WRONG_VERSION, narephon.write_register, replaced(record, 2, 3), 0x42, 7)
+        self.refused(Reply.BAD_FIELD, narephon.write_register, replaced(record, 8, 5), 0x42, 7)
+        self.refused(Reply.WRONG_COUNT, narephon.next_frame, b"")
 
-    def test_what_is_a_record(self) -> None:
+
+class Checking(Case):
+    """What is a record, what is wrong with one that is none, and where."""
+
+    def wrong(self, reply: Reply, place: int, record: bytes) -> None:
+        self.assertIs(narephon.is_record(record), False)
+        self.refused_at(reply, place, narephon.check_record, record)
+        self.refused_at(reply, place, narephon.load_record, record)
+
+    def test_a_record(self) -> None:
+        narephon.check_record(narephon.reset())
+        self.assertIs(narephon.is_record(narephon.reset()), True)
+
+    def test_the_number(self) -> None:
         record = narephon.reset()
-        narephon.check_record(record)
-        self.assertIs(narephon.is_record(record), True)
-        unlawful = record[:-2] + bytes([2, 0])  # a colour above 511
-        for damaged in (b"", record[:-1], record + b"\0", b"\0" + record[1:], unlawful):
-            self.assertIs(narephon.is_record(damaged), False)
-            self.refused(Reply.NOT_RECORD, narephon.check_record, damaged)
+        for damaged in (b"", record[:1], b"\0\0", record[:-1], record + b"\0"):
+            self.wrong(Reply.WRONG_COUNT, 0, damaged)
+        for place, byte in ((0, 0), (1, 101), (1, 100)):
+            self.wrong(Reply.WRONG_COUNT, 0, replaced(record, place, byte))
+        counted = bytes([8, 103, 2]) + bytes(2150)  # 2,151 bytes follow, which is no record's number
+        self.wrong(Reply.WRONG_COUNT, 0, counted)
+
+    def test_the_version(self) -> None:
+        for version in (0, 1, 3, 255):
+            self.wrong(Reply.WRONG_VERSION, 2, replaced(narephon.reset(), 2, version))
+
+    def test_each_field(self) -> None:
+        # $43, $42, $4C, $68, $6B, $2F, $6E, $6F, $33, $27, both turns, the flag, the byte that none holds, the border,
+        # $BF3B, ULAplus, and the first and last colour of each palette.
+        for place, byte in ((6, 16), (8, 5), (10, 16), (11, 2), (12, 1), (14, 4), (17, 64), (18, 64), (20, 192),
+                            (22, 192), (31, 4), (32, 4), (33, 2), (34, 1), (35, 8), (37, 128), (38, 2), (104, 2),
+                            (614, 2), (616, 2), (1126, 2), (1128, 2), (1638, 2), (1640, 2), (2150, 255)):
+            self.wrong(Reply.BAD_FIELD, place, replaced(narephon.reset(), place, byte))
+
+    def test_the_first_of_several(self) -> None:
+        record = narephon.reset()
+        for reply, place, byte in ((Reply.BAD_FIELD, 2150, 2), (Reply.BAD_FIELD, 35, 8), (Reply.BAD_FIELD, 34, 1),
+                                   (Reply.BAD_FIELD, 6, 16), (Reply.WRONG_VERSION, 2, 1), (Reply.WRONG_COUNT, 0, 9)):
+            record = replaced(record, place, byte)
+            self.wrong(reply, place, record)
 
 
 class Drawing(Case):
@@ -58,7 +92,8 @@ class Drawing(Case):
         record = narephon.reset()
         self.refused(Reply.NO_LINE, narephon.draw, record, BANK, BANK, 256)
         self.refused(Reply.BANK_LENGTH, narephon.draw, record, b"", BANK, 0)
-        self.refused(Reply.NOT_RECORD, narephon.draw, b"", BANK, BANK, 0)
+        self.refused(Reply.WRONG_COUNT, narephon.draw, b"", BANK, BANK, 0)
+        self.refused(Reply.BAD_FIELD, narephon.draw, replaced(record, 2150, 2), BANK, BANK, 0)
         self.refused(Reply.OUT_OF_BOUNDS, narephon.screen_value, 512)
 
 

@@ -51,7 +51,7 @@ class Previews(Case):
         timex = narephon.write_port(written(record, (0x08, 4)), 0xFF, 3)
         for reply, arguments in (
             (Reply.BANK_LENGTH, (record, BANK[1:], BANK)), (Reply.BANK_LENGTH, (record, BANK, BANK + b"\0")),
-            (Reply.NOT_RECORD, (record[1:], BANK, BANK)),
+            (Reply.WRONG_COUNT, (record[1:], BANK, BANK)),
             (Reply.LORES_WITH_TILES, (written(record, (0x15, 128), (0x6B, 128)), BANK, BANK)),
             (Reply.NEXT_WITH_PLUS, (written(plus, (0x43, 1)), BANK, BANK)),
             (Reply.NO_MODE, (timex, BANK, BANK)),

@@ -8,9 +8,9 @@ from unittest import mock
 
 import narephon
 from narephon import Refused, Reply
-from support import Case
+from support import Case, replaced
 
-UNKNOWN = "a reply that this wrapper does not know: the library is newer than it"
+UNKNOWN = "a reply that this wrapper does not know: the library is of another version"
 
 
 class Replies(Case):
@@ -18,8 +18,20 @@ class Replies(Case):
         with self.assertRaises(Refused) as caught:
             narephon.write_register(narephon.reset(), 0x42, 5)
         self.assertEqual(str(caught.exception), "refused 10: the value is out of its bounds")
+        self.assertIsNone(caught.exception.place)
 
-    def test_a_reply_of_a_newer_library(self) -> None:
+    def test_what_a_refused_record_prints(self) -> None:
+        record = narephon.reset()
+        with self.assertRaises(Refused) as caught:
+            narephon.check_record(replaced(record, 35, 8))
+        self.assertEqual(str(caught.exception), "refused 18: a field of the record is out of its bounds (place 35)")
+        # Place 0 is a place.
+        with self.assertRaises(Refused) as caught:
+            narephon.check_record(b"")
+        self.assertEqual(str(caught.exception)[-10:], " (place 0)")
+        self.assertEqual(caught.exception.place, 0)
+
+    def test_a_reply_of_another_version(self) -> None:
         library = mock.Mock()
         library.narephon_next_frame.return_value = 255
         with mock.patch.object(narephon, "_narephon", library), self.assertRaises(Refused) as caught:
@@ -29,7 +41,19 @@ class Replies(Case):
         self.assertIsInstance(reply, Reply)
         self.assertEqual((reply, reply.name, reply.sentence), (255, "UNKNOWN_255", UNKNOWN))
         self.assertEqual(reply, Reply(255))
-        self.assertEqual(len(Reply), 16)
+
+    def test_how_many_there_are(self) -> None:
+        """0 to 18, but for 13: it is retired, and a number that the wrapper does not know."""
+        self.assertEqual([int(reply) for reply in Reply], [*range(13), *range(14, 19)])
+        self.assertEqual(Reply(13).sentence, UNKNOWN)
+
+    def test_only_some_replies_tell_a_place(self) -> None:
+        for number in range(1, 256):
+            library = mock.Mock()
+            library.narephon_check_record.return_value = number
+            with mock.patch.object(narephon, "_narephon", library), self.assertRaises(Refused) as caught:
+                narephon.check_record(b"")
+            self.assertEqual(caught.exception.place, 0 if number in (16, 17, 18) else None)
 
     def test_what_is_no_reply(self) -> None:
         for number in (-1, 256, "10", None):
@@ -37,9 +61,9 @@ class Replies(Case):
                 Reply(number)  # type: ignore[call-arg]
 
     def test_a_refusal_can_be_pickled(self) -> None:
-        for number in (10, 255):
-            again = pickle.loads(pickle.dumps(Refused(Reply(number))))
-            self.assertEqual((again.reply, str(again)), (number, str(Refused(Reply(number)))))
+        for refused in (Refused(Reply(10)), Refused(Reply(255)), Refused(Reply(18), 35), Refused(Reply(16), 0)):
+            again = pickle.loads(pickle.dumps(refused))
+            self.assertEqual((again.reply, again.place, str(again)), (refused.reply, refused.place, str(refused)))
 
 
 if __name__ == "__main__":

@@ -90,8 +90,8 @@ class Reading(Case):
         for port in range(256):
             if port % 8 != 6:
                 self.refused(Reply.NO_FORM, narephon.read_scr, record, bank, file[:-1] + bytes([port]))
-        self.refused(Reply.NOT_RECORD, narephon.read_scr, record[1:], bank, b"")
-        self.refused(Reply.NOT_RECORD, narephon.read_scr, b"", bank, file)
+        self.refused(Reply.WRONG_COUNT, narephon.read_scr, record[1:], bank, b"")
+        self.refused(Reply.WRONG_COUNT, narephon.read_scr, b"", bank, file)
         self.refused(Reply.BANK_LENGTH, narephon.read_scr, b"", bank[1:], b"")
         self.refused(Reply.BANK_LENGTH, narephon.read_scr, record, b"", file)
 
@@ -107,7 +107,7 @@ class Writing(Case):
             if port not in (0, 2, 6):
                 self.refused(Reply.NO_FORM, narephon.write_scr, narephon.write_port(record, 0xFF, port), bank)
         self.refused(Reply.NO_FORM, narephon.write_scr, written(record, (0x15, 0x80)), bank)
-        self.refused(Reply.NOT_RECORD, narephon.write_scr, record[1:], bank)
+        self.refused(Reply.WRONG_COUNT, narephon.write_scr, record[1:], bank)
         self.refused(Reply.BANK_LENGTH, narephon.write_scr, record[1:], bank + b"\0")
 
 

@@ -6,7 +6,7 @@ import unittest
 
 import narephon
 from narephon import Reply
-from support import Case, sample, written
+from support import Case, replaced, sample, written
 
 BANK = bytes(narephon.BANK)
 # A screen scrolled by 13 and 65, in LoRes too.
@@ -35,14 +35,29 @@ class Moves(Case):
             self.assertEqual(given, record)
 
     def test_refusals(self) -> None:
-        for record in (NEW, OLD[1:], OLD + b"\0", b""):
-            self.refused(Reply.NOT_RECORD, narephon.move_up, record)
-        for record in (OLD, NEW[1:], NEW + b"\0", b""):
-            self.refused(Reply.NOT_RECORD, narephon.move_back, record)
+        for record in (OLD[1:], OLD + b"\0", b""):
+            self.refused_at(Reply.WRONG_COUNT, 0, narephon.move_up, record)
+        for record in (NEW[1:], NEW + b"\0", b""):
+            self.refused_at(Reply.WRONG_COUNT, 0, narephon.move_back, record)
         for write in ((0x26, 12), (0x27, 66), (0x32, 14), (0x33, 0)):
-            self.refused(Reply.PAIRS_DIFFER, narephon.move_back, written(NEW, write))
+            apart = written(NEW, write)
+            self.refused(Reply.PAIRS_DIFFER, narephon.move_back, apart)
+            self.refused_at(Reply.BAD_FIELD, 2150, narephon.move_back, replaced(apart, 2150, 2))
         with self.assertRaisesRegex(TypeError, "^record must be bytes"):
             narephon.move_up("record")  # type: ignore[arg-type]
+
+    def test_the_other_version(self) -> None:
+        for record in (NEW, replaced(NEW, 35, 8), replaced(NEW, 2, 1)):
+            self.refused_at(Reply.WRONG_VERSION, 2, narephon.move_up, record)
+        for record in (OLD, replaced(OLD, 33, 8), replaced(OLD, 2, 2)):
+            self.refused_at(Reply.WRONG_VERSION, 2, narephon.move_back, record)
+
+    def test_a_field(self) -> None:
+        # What follows $33, at 20, stands two places before in an old record: the clips' turns are at 29 and 30.
+        for place, byte in ((6, 16), (20, 192), (29, 4), (30, 4), (31, 2), (32, 1), (33, 8), (102, 2), (2148, 2)):
+            self.refused_at(Reply.BAD_FIELD, place, narephon.move_up, replaced(OLD, place, byte))
+        for place, byte in ((6, 16), (22, 192), (31, 4), (32, 4), (33, 2), (34, 1), (35, 8), (104, 2), (2150, 2)):
+            self.refused_at(Reply.BAD_FIELD, place, narephon.move_back, replaced(NEW, place, byte))
 
 
 class Loading(Case):
@@ -55,7 +70,10 @@ class Loading(Case):
 
     def test_refusals(self) -> None:
         for record in (b"", OLD[1:], NEW[1:], NEW[2:], OLD + b"\0"):
-            self.refused(Reply.NOT_RECORD, narephon.load_record, record)
+            self.refused_at(Reply.WRONG_COUNT, 0, narephon.load_record, record)
+        self.refused_at(Reply.WRONG_VERSION, 2, narephon.load_record, replaced(OLD, 2, 2))
+        self.refused_at(Reply.BAD_FIELD, 33, narephon.load_record, replaced(OLD, 33, 8))
+        self.refused_at(Reply.BAD_FIELD, 35, narephon.load_record, replaced(NEW, 35, 8))
 
 
 class Old(Case):
@@ -79,10 +97,10 @@ class Old(Case):
             self.assertEqual(narephon.draw(scrolled, ula, tile, line), narephon.draw(moved, ula, tile, line))
 
     def test_what_is_not_changed(self) -> None:
-        self.refused(Reply.NOT_RECORD, narephon.next_frame, OLD)
-        self.refused(Reply.NOT_RECORD, narephon.write_register, OLD, 0x14, 7)
-        self.refused(Reply.NOT_RECORD, narephon.write_port, OLD, 0xFE, 2)
-        self.refused(Reply.NOT_RECORD, narephon.read_scr, OLD, BANK, bytes(6912))
+        self.refused(Reply.WRONG_VERSION, narephon.next_frame, OLD)
+        self.refused(Reply.WRONG_VERSION, narephon.write_register, OLD, 0x14, 7)
+        self.refused(Reply.WRONG_VERSION, narephon.write_port, OLD, 0xFE, 2)
+        self.refused(Reply.WRONG_VERSION, narephon.read_scr, OLD, BANK, bytes(6912))
 
 
 # What Scrolls writes: colours 2 and 3, and the two offsets.

@@ -1,4 +1,4 @@
-// The calls that change a lent record, of version 2. To all but reset, which reads nothing, one of version 1 is no record.
+// The calls that change a lent record, of version 2. To all but reset, which reads nothing, one of version 1 is 17.
 ghost use mathlib.Core.Path.{_≡_};
 ghost use Rattle.reply.specs.Reply.{replyNumber};
 ghost use Rattle.frame.specs.Frame.{nextFrame};
@@ -17,7 +17,7 @@ pub extern "C" fn narephon_reset(bytes: &mut [u8]) -> u8
 }
 
 // Moves the state in the record `bytes` one frame on, from 255 to 0.
-// Bytes that are no record are 13 and stay as they were.
+// Bytes that are no record are 16, 17 or 18 and stay as they were.
 #[no_mangle]
 pub extern "C" fn narephon_next_frame(bytes: &mut [u8]) -> u8
     ensures { λ r. ⌜ (r ≡ replyNumber (lentAnswer nextFrame (now (bytes .entry)) .reply))
@@ -27,7 +27,7 @@ pub extern "C" fn narephon_next_frame(bytes: &mut [u8]) -> u8
 }
 
 // Writes `value` to the register of this number, in the record `bytes`.
-// Refused by 13, 9 or 10, it leaves the bytes, and with them a held half.
+// Refused by 16, 17, 18, 9 or 10, it leaves the bytes, and with them a held half.
 #[no_mangle]
 pub extern "C" fn narephon_write_register(bytes: &mut [u8], register: u8, value: u8) -> u8
     ensures { λ r. ⌜ (r ≡ replyNumber (lentAnswer (λ s. writeRegister s register value) (now (bytes .entry)) .reply))
@@ -37,7 +37,7 @@ pub extern "C" fn narephon_write_register(bytes: &mut [u8], register: u8, value:
 }
 
 // Writes `value` to the port of this whole number ($00FE, $00FF, $BF3B or $FF3B), in the record `bytes`.
-// Refused by 13, 9 or 10, it leaves the bytes.
+// Refused by 16, 17, 18, 9 or 10, it leaves the bytes.
 #[no_mangle]
 pub extern "C" fn narephon_write_port(bytes: &mut [u8], port: u16, value: u8) -> u8
     ensures { λ r. ⌜ (r ≡ replyNumber (lentAnswer (λ s. writePort s port value) (now (bytes .entry)) .reply))

@@ -22,7 +22,8 @@ pub extern "C" fn narephon_screen_value(colour: u32, value: &mut u32) -> u8
 }
 
 // Draws a line, 0 to 255, of the state in the record `bytes` over the two banks, as 640 nine-bit colours in `dots`.
-// `ula` and `tile` may be the same bytes. Refused by 1, 2, 3, 13, 6, 7, 5 or 8, in this order, it leaves `dots`.
+// `ula` and `tile` may be the same bytes. Refused by 1, 2, 3, 16, 17, 18, 6, 7, 5 or 8, in this order, it leaves
+// `dots`.
 #[no_mangle]
 pub extern "C" fn narephon_draw(
     bytes: &[u8],

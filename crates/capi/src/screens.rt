@@ -8,7 +8,7 @@ ghost use Rattle.lent_scr.specs.Screens.{lentReadReply, screenRead, recordAfter
 use reply::number;
 
 // Reads a screen file into `bank` and into the state in the record `bytes`; `colours` becomes the place of the file's 64 colours in it,
-// 0 where it has none. Refused by 2, 13 or 14, in this order, it leaves record and bank and sets `colours` to 0.
+// 0 where it has none. Refused by 2, 16, 17, 18 or 14, in this order, it leaves record and bank and sets `colours` to 0.
 #[no_mangle]
 pub extern "C" fn narephon_read_scr(
     bytes: &mut [u8],
@@ -28,7 +28,8 @@ pub extern "C" fn narephon_read_scr(
 }
 
 // Writes the screen of the state in the record `bytes` and `bank` into the front of `file`, which is 12,353 bytes; `length` becomes how
-// long it is, and the bytes past it stay. Refused by 2, 3, 13 or 14, in this order, it leaves `file` and sets `length` to 0.
+// long it is, and the bytes past it stay. Refused by 2, 3, 16, 17, 18 or 14, in this order, it leaves `file` and
+// sets `length` to 0.
 #[no_mangle]
 pub extern "C" fn narephon_write_scr(
     bytes: &[u8],

@@ -1,4 +1,4 @@
-// What is wrong, in a line on standard error that begins with the program's name.
+// What is wrong, in lines on standard error that begin with the program's name.
 use libc::STDERR_FILENO;
 use reply::Reply;
 use reply::number;
@@ -25,16 +25,29 @@ fn state_meaning(r: Reply) {
     }
 }
 
+// What a record is refused for.
+fn record_meaning(r: Reply) {
+    match r {
+        Reply::WrongCount => say(
+            b"the record's stated number is missing, is not the number of bytes following, or is neither 2,148 nor 2,150",
+        ),
+        Reply::WrongVersion => say(
+            b"the record's version is not read here, or is not the one of its length",
+        ),
+        Reply::BadField => say(b"a field of the record is out of its bounds"),
+        _ => state_meaning(r),
+    }
+}
+
 // What a reply means, for those that a program can be refused by.
 fn meaning(r: Reply) {
     match r {
         Reply::BankLength => say(b"a bank is not 16,384 bytes long"),
-        Reply::NotRecord => say(b"the bytes are not a record of a lawful state"),
         Reply::NoForm => say(b"the file is not a screen, or the screen has no form as a file"),
         Reply::PairsDiffer => say(
             b"the record cannot be moved back: $26 is not $32, or $27 is not $33",
         ),
-        _ => state_meaning(r),
+        _ => record_meaning(r),
     }
 }
 

@@ -1,4 +1,4 @@
--- Rules 7.10, 9.13 and 10.9 for a state lent as its record: 13 stands in the place of 4, and a refusal changes no lent byte. What is written
+-- Rules 7.10, 9.16 to 9.18 and 10.9 for a state lent as its record: 16, 17 and 18 stand in the place of 4, and a refusal changes no lent byte. What is written
 -- back takes the place of what was read, so a change takes records of the version that is written alone; a question takes both.
 use mathlib.Core.List.{List}
 use mathlib.Core.Bool.{cond}
@@ -10,6 +10,7 @@ use Rattle.reply.specs.declared.Reply.the-variants.{Done, BufferLength}
 use Rattle.reply.specs.Reply.{isDone}
 use Rattle.state.specs.declared.State.{State}
 use Rattle.state.specs.declared.Answer.{Answer}
+use Rattle.state.specs.Answer.{refused}
 use Rattle.state.specs.Reset.{resetState}
 use Rattle.register_answers.specs.declared.Reading.{Reading}
 use Rattle.register_answers.specs.Answers.{unread}
@@ -18,7 +19,7 @@ use Rattle.record_layout.specs.Record.{recordLength, recordOf, readRecord, read
 
 -- what a call that changes a state answers on the state in a lent record, or the refusal of the record
 unfoldable pub lentAnswer : (State → Answer) → List ℕ → Answer
-lentAnswer call b = cond (isDone (readCurrent b .reply)) (call (readCurrent b .state)) (readCurrent b)
+lentAnswer call b = let r = readCurrent b in cond (isDone (r .reply)) (call (r .state)) (refused (r .reply) (r .state))
 
 -- the lent record after an answer: the record of the answer's state, or as it was where the answer is a refusal
 unfoldable pub lentAfter : List ℕ → Answer → List ℕ

@@ -17,7 +17,6 @@ use Rattle.state_bits.specs.Bits.{ulaOn, ulaSecondShown, tileSecondShown, tilem
 use Rattle.state.specs.Lawful.{allColours}
 use Rattle.state.proofs.Kept.{lawful-kept}
 use Rattle.state.specs.declared.State.{State}
-use Rattle.state.specs.declared.Answer.{Answer}
 use Rattle.state.specs.declared.Palette.{Palette}
 use Rattle.state.specs.declared.Tiles.{Tiles}
 use Rattle.state.specs.declared.Ula.{Ula}
@@ -34,6 +33,7 @@ use Rattle.tilemap.specs.Dots.{tileDot}
 use Rattle.tilemap_setup.specs.Setup.{setupOf, windowOf}
 use Rattle.record_layout.specs.Fields.{pair, rowAt}
 use Rattle.record_layout.specs.Places.{ulaFirstPlace, ulaSecondPlace, tileFirstPlace, tileSecondPlace}
+use Rattle.record_layout.specs.declared.RecordRead.{RecordRead}
 use Rattle.record_layout.specs.declared.Version.{Version}
 use Rattle.record_layout.specs.Record.{accepted, stateAs, versionOf, readAs, readRecord}
 use Rattle.record_layout.proofs.Read.{ulafirst-read, ulasecond-read, tilefirst-read, tilesecond-read}
@@ -132,10 +132,10 @@ module _ (line : LineNumber) (ula tile dots b : List ℕ) (v : Version) (told : 
 
   early-is : early ≡ firstHit pieces
   early-is =
-      e ∙ ap (λ (r : Reply). firstHit (lineReply line ∷ lengthsReply (length ula) (length tile) (length dots) ∷ r ∷ [])) (h ∙ ap (λ (a : Answer). a .reply) record-is)
+      e ∙ ap (λ (r : Reply). firstHit (lineReply line ∷ lengthsReply (length ula) (length tile) (length dots) ∷ r ∷ [])) (h ∙ ap (λ (a : RecordRead). a .reply) record-is)
 
   taken : early ≡ Done → accepted v b ≡ true
-  taken z = done-accepted v b (ap (λ (a : Answer). a .reply) record-is ∙ all-done pieces (sym early-is ∙ z) .1 .1 .0)
+  taken z = done-accepted v b (ap (λ (a : RecordRead). a .reply) record-is ∙ all-done pieces (sym early-is ∙ z) .1 .1 .0)
 
   -- what a drawing has met that is not refused early
   pub met : early ≡ Done → (RecordBounds v b) × (isLine line ≡ true) × (length ula ≡ 16384) × (length tile ≡ 16384) × (length dots ≡ 640)
@@ -146,7 +146,7 @@ module _ (line : LineNumber) (ula tile dots b : List ℕ) (v : Version) (told : 
       (record { long = long v b t; lawful = state-lawful v b t }, line-met line (m .0), q .0, q .1, q .2)
 
   state-is : early ≡ Done → readRecord b .state ≡ stateAs v b
-  state-is z = ap (λ (a : Answer). a .state) (sym record-is ∙ accepts v b (taken z))
+  state-is z = ap (λ (a : RecordRead). a .state) (sym record-is ∙ accepts v b (taken z))
 
   abbrev alone : State → Reply
   alone s = stateReply (s .ula) (s .tiles) (s .palette) (s .ports)

@@ -1,4 +1,4 @@
--- Rules 7.10 and 10.1 by a lent record, of either version since a drawing only reads it: 13 stands in the place of 4, after 1, 2 and 3.
+-- Rules 7.10 and 10.1 by a lent record, of either version since a drawing only reads it: 16, 17 and 18 stand in the place of 4, after 1, 2 and 3.
 use Prim.Native.Nat.{ℕ}
 use mathlib.Core.List.{List, [], _∷_}
 use lib.ListN.{length}
@@ -9,7 +9,7 @@ use Rattle.record_layout.specs.Record.{readRecord}
 use Rattle.line.specs.Lines.{drawnLine}
 use Rattle.line_replies.specs.Replies.{lineReply, lengthsReply, stateReply, drawnIf}
 
--- 1; 2, 3; 13; then what the state in the record is refused for: 6, 7, 5, 8
+-- 1; 2, 3; 16, 17, 18; then what the state in the record is refused for: 6, 7, 5, 8
 unfoldable pub lentDrawReply : LineNumber → ℕ → ℕ → ℕ → List ℕ → Reply
 lentDrawReply line ula tile dots b =
     let s = readRecord b .state in

@@ -1,5 +1,5 @@
 -- The claims on lent records. A record that is read holds a lawful and typed state; every change keeps it so, and the record of such a
--- state reads back. A call on it is refused by 4 nowhere. An old record has the length of no current one, so a change refuses it.
+-- state reads back. A call on it is refused by 4 nowhere. An old record is refused by a change for its version.
 use Prim.Native.Nat.{ℕ}
 use mathlib.Core.Path.{_≡_, refl, sym, ap, _∙_}
 use mathlib.Core.List.{List}
@@ -9,13 +9,14 @@ use lib.ListN.{length}
 use lib.Dec.{eqb}
 use Rattle.lists.proofs.Cond.{if-true, either}
 use Rattle.reply.specs.declared.Reply.{Reply}
-use Rattle.reply.specs.declared.Reply.the-variants.{Done, NoLine, BankLength, BufferLength, NoMode, LoresWithTiles, NextWithPlus, FarOffset}
+use Rattle.reply.specs.declared.Reply.the-variants.{Done, NoLine, BankLength, BufferLength, NoMode, LoresWithTiles, NextWithPlus, FarOffset, WrongVersion}
 use Rattle.reply.specs.Reply.{isDone}
 use Rattle.reply.proofs.Done.{is-done}
 use Rattle.reply.proofs.Order.{hit-each}
 use Rattle.state.specs.declared.State.{State}
 use Rattle.state.specs.declared.Answer.{Answer}
-use Rattle.state.specs.Answer.{done}
+use Rattle.state.specs.Answer.{refused}
+use Rattle.state.specs.Reset.{resetState}
 use Rattle.state.specs.Lawful.{lawfulState}
 use Rattle.state.specs.Typed.{Typed}
 use Rattle.frame.proofs.Claims.{frameLawful, frame-done}
@@ -25,14 +26,15 @@ use Rattle.register_answers.specs.declared.Reading.{Reading}
 use Rattle.register_answers.specs.Answers.{unread}
 use Rattle.register_laws.specs.Claims.{LawfulStays}
 use Rattle.register_laws.proofs.Claims.{lawfulStays, neverFour}
+use Rattle.record_layout.specs.declared.RecordRead.{RecordRead}
 use Rattle.record_layout.specs.declared.Version.{Version}
 use Rattle.record_layout.specs.declared.Version.the-variants.{Version1}
 use Rattle.record_layout.specs.Version.{current, keptIn}
-use Rattle.record_layout.specs.Record.{recordLength, versionOf, accepted, notRecord, readAs, readRecord, readCurrent}
+use Rattle.record_layout.specs.Record.{recordLength, versionOf, told, passed, readWith, readAs, readRecord, readCurrent}
 use Rattle.record_layout.specs.Claims.{IsRecord}
-use Rattle.record_layout.proofs.Stages.{accepts, refuses, done-accepted}
+use Rattle.record_layout.proofs.Stages.{accepts, done-accepted}
 use Rattle.record_layout.proofs.RoundTrip.{long, state-lawful}
-use Rattle.record_layout.proofs.Claims.{readsKept, read-told, current-read, readLawful, record-taken}
+use Rattle.record_layout.proofs.Claims.{readsKept, read-told, current-read, readLawful, record-taken, refusesOther}
 use Rattle.line_replies.specs.Replies.{lineReply, lengthsReply, stateReply, loresWithTiles, nextWithPlus, noMode, farOffset}
 use Rattle.lent.specs.declared.changes.Change.{Change}
 use Rattle.lent.specs.declared.changes.Change.the-variants.{NextFrame, Register, Port}
@@ -53,9 +55,13 @@ change-keeps (Register n v) s b t h = lawfulStays .0 s n v b t h
 change-keeps (Port n v) s b t h = lawfulStays .1 s n v b t h
 
 -- an answer that is done reads back, where its state is lawful and typed
-back : (b : List ℕ) (a : Answer) → lawfulState (a .state) ≡ true → Typed (a .state) → a .reply ≡ Done → readRecord (lentAfter b a) ≡ done (a .state)
+back : (b : List ℕ) (a : Answer) → lawfulState (a .state) ≡ true → Typed (a .state) → a .reply ≡ Done → readRecord (lentAfter b a) ≡ readWith passed (a .state)
 unfolding lentAfter
 back b a h t d = ap readRecord (if-true _ _ _ (ap isDone d)) ∙ current-read (a .state) t h
+
+-- what a change answers on bytes that are no record
+abbrev unchanged : List ℕ → Answer
+unchanged b = refused (readCurrent b .reply) (readCurrent b .state)
 
 pub changeReadsBack : ChangeReadsBack
 unfolding lentAnswer
@@ -63,8 +69,8 @@ changeReadsBack b c y w d =
     let r = readLawful current b y in
     let k = change-keeps c (readCurrent b .state) w (r .1) (r .0) in
     back b (lentAnswer (changed c) b)
-    (either (λ a. lawfulState (a .state) ≡ true) (isDone (readCurrent b .reply)) (changed c (readCurrent b .state)) (readCurrent b) (k .0) (r .0))
-    (either (λ a. Typed (a .state)) (isDone (readCurrent b .reply)) (changed c (readCurrent b .state)) (readCurrent b) (k .1) (r .1)) d
+    (either (λ a. lawfulState (a .state) ≡ true) (isDone (readCurrent b .reply)) (changed c (readCurrent b .state)) (unchanged b) (k .0) (r .0))
+    (either (λ a. Typed (a .state)) (isDone (readCurrent b .reply)) (changed c (readCurrent b .state)) (unchanged b) (k .1) (r .1)) d
 
 -- ---- never 4
 
@@ -76,7 +82,7 @@ asking reply v b x y h e = go (isDone (readAs v b .reply)) refl
     go : (t : Bool) → isDone (readAs v b .reply) ≡ t → NotFour (reply (cond t x y))
     go true d =
         let r = done-accepted v b (is-done (readAs v b .reply) d) in
-        h (ap (λ (a : Answer). lawfulState (a .state)) (accepts v b r) ∙ state-lawful v b r)
+        h (ap (λ (a : RecordRead). lawfulState (a .state)) (accepts v b r) ∙ state-lawful v b r)
     go false d = rw e (read-not-four v b)
 
 change-not-four : (c : Change) (s : State) → lawfulState s ≡ true → NotFour (changed c s .reply)
@@ -110,7 +116,7 @@ state-not-four s =
 pub neverNotLawful : NeverNotLawful
 unfolding lentAnswer lentReading lentDrawReply readRecord
 neverNotLawful = record {
-  changes = λ b c. asking (λ (a : Answer). a .reply) current b (changed c (readCurrent b .state)) (readCurrent b) (change-not-four c (readCurrent b .state)) refl;
+  changes = λ b c. asking (λ (a : Answer). a .reply) current b (changed c (readCurrent b .state)) (unchanged b) (change-not-four c (readCurrent b .state)) refl;
   queries = λ b q. asking (λ (a : Reading). a .reply) (versionOf (length b)) b (asked q (readRecord b .state)) (unread (readRecord b .reply)) (query-not-four q (readRecord b .state)) refl;
   drawings =
       λ b line ula tile dots. hit-each NotFour _ (other Done 0 refl (λ z. omega arith))
@@ -123,18 +129,14 @@ module _ (b : List ℕ) (r : IsRecord Version1 b) where
   pub old-long : length b ≡ recordLength Version1
   old-long = long Version1 b (record-taken Version1 b r)
 
-  pub old-refused : readCurrent b ≡ notRecord
-  old-refused = go (accepted current b) refl
-    where
-      go : (t : Bool) → accepted current b ≡ t → readCurrent b ≡ notRecord
-      go true e = absurd (omega (arith, old-long, long current b e))
-      go false e = refuses current b e
+  pub old-refused : readCurrent b ≡ readWith (told WrongVersion 2) resetState
+  old-refused = refusesOther current b r
 
-  old-unanswered : (call : State → Answer) → lentAnswer call b ≡ notRecord
+  old-unanswered : (call : State → Answer) → lentAnswer call b ≡ refused WrongVersion resetState
   unfolding lentAnswer
-  old-unanswered call = rw old-refused
+  old-unanswered call = ap (λ (a : RecordRead). cond (isDone (a .reply)) (call (a .state)) (refused (a .reply) (a .state))) old-refused
 
-  pub old-read : readRecord b ≡ done (keptIn Version1 (r .0))
+  pub old-read : readRecord b ≡ readWith passed (keptIn Version1 (r .0))
   old-read = read-told Version1 b old-long ∙ ap (readAs Version1) (sym (r .3)) ∙ readsKept Version1 (r .0) (r .1) (r .2)
 
   old-told : (call : State → Reading) → lentReading call b ≡ call (keptIn Version1 (r .0))

@@ -9,7 +9,7 @@ use Rattle.lists.proofs.Cond.{if-true, if-false}
 use Rattle.reply.specs.declared.Reply.{Reply}
 use Rattle.reply.specs.Reply.{replyNumber, isDone}
 use Rattle.state.specs.declared.State.{State}
-use Rattle.state.specs.declared.Answer.{Answer}
+use Rattle.record_layout.specs.declared.RecordRead.{RecordRead}
 use Rattle.record_layout.specs.Version.{current}
 use Rattle.record_layout.specs.Record.{recordLength, recordOf, readRecord, readCurrent}
 use Rattle.record_layout.proofs.Stages.{done-accepted}
@@ -28,10 +28,10 @@ use Rattle.scr.proofs.Read as read-laws
 use Rattle.lent_scr.specs.declared.reading.ScreenRead.{ScreenRead}
 use Rattle.lent_scr.specs.Screens.{lentReadReply, screenRead, recordAfter, lentWriteReply}
 
-module _ (b bank file : List ℕ) (read : Answer) (found : Shape) (r : Reply) (n : ℕ) (eb : read ≡ readCurrent b) (ef : found ≡ shapeOf file)
+module _ (b bank file : List ℕ) (read : RecordRead) (found : Shape) (r : Reply) (n : ℕ) (eb : read ≡ readCurrent b) (ef : found ≡ shapeOf file)
     (er : r ≡ readJudged (read .reply) (length bank) (found .mode)) (en : n ≡ replyNumber r) where
   judged : r ≡ readJudged (readCurrent b .reply) (length bank) (found .mode)
-  judged = er ∙ ap (λ (a : Answer). readJudged (a .reply) (length bank) (found .mode)) eb
+  judged = er ∙ ap (λ (a : RecordRead). readJudged (a .reply) (length bank) (found .mode)) eb
 
   told : r ≡ lentReadReply b bank file
   told = read-laws.told (readCurrent b .reply) bank file found r n ef judged en
@@ -58,7 +58,7 @@ module _ (b bank file : List ℕ) (read : Answer) (found : Shape) (r : Reply) (n
   unfolding lentAfter
   screen-stored z k x y e f g = (
     answered k (place-told z k e),
-    f ∙ ap (λ (a : Answer). recordOf (stateRead (a .state) file)) eb
+    f ∙ ap (λ (a : RecordRead). recordOf (stateRead (a .state) file)) eb
         ∙ sym (if-true _ _ _ (read-laws.told-done (readCurrent b .reply) bank file found r n ef judged en z)),
     read-laws.bank-read (readCurrent b .reply) bank file found r n ef judged en z y g,
   )
@@ -90,8 +90,8 @@ length-small r s = go (isDone r)
     go false = omega arith
 
 -- writing goes by the reply and the state of the record that was read
-pub written-by-record : (b bank file : List ℕ) (read : Answer) (m : Mode) (r : Reply) → read ≡ readRecord b → m ≡ modeIn (read .state)
+pub written-by-record : (b bank file : List ℕ) (read : RecordRead) (m : Mode) (r : Reply) → read ≡ readRecord b → m ≡ modeIn (read .state)
     → r ≡ writeJudged (read .reply) (length bank) (length file) m → r ≡ lentWriteReply b bank file
 written-by-record b bank file read m r e f h =
     h ∙ ap (writeJudged (read .reply) (length bank) (length file)) f
-    ∙ ap (λ (a : Answer). writeJudged (a .reply) (length bank) (length file) (modeIn (a .state))) e
+    ∙ ap (λ (a : RecordRead). writeJudged (a .reply) (length bank) (length file) (modeIn (a .state))) e

@@ -47,7 +47,7 @@ fn store_screen(bytes: &mut [u8], bank: &mut [u8], s: State, found: Shape, file:
     put_record(t, bytes);
 }
 
-// A screen file read into the bank and the state in the record, or refused by 2, 13 or 14 and both as they were.
+// A screen file read into the bank and the state in the record, or refused by 2, 16, 17, 18 or 14 and both as they were.
 pub fn read_scr_record(bytes: &mut [u8], bank: &mut [u8], file: &[u8]) -> ScreenRead
     ensures { λ r. ⌜ (r ≡ screenRead (lentReadReply (now (bytes .entry)) (now (bank .entry)) (now (file .entry))) (now (file .entry)))
         × (now (bytes .exit) ≡ recordAfter (lentReadReply (now (bytes .entry)) (now (bank .entry)) (now (file .entry))) (now (bytes .entry)) (now (file .entry)))

@@ -8,8 +8,8 @@ use scr::write_judged;
 use scr_replies::write_reply;
 use ula_mode::mode_of;
 
-// The screen of the state in the record written into the front of 12,353 lent bytes, or refused by 2, 3, 13 or 14 and the bytes as they
-// were.
+// The screen of the state in the record written into the front of 12,353 lent bytes, or refused by 2, 3, 16, 17, 18 or 14 and the
+// bytes as they were.
 pub fn write_scr_record(bytes: &[u8], bank: &[u8], file: &mut [u8]) -> Written
     ensures { λ r. ⌜ (r ≡ writtenAnswer (lentWriteReply (now (bytes .entry)) (now (bank .entry)) (now (file .entry))) (readRecord (now (bytes .entry)) .state))
         × (now (file .exit) ≡ fileAfter (lentWriteReply (now (bytes .entry)) (now (bank .entry)) (now (file .entry))) (readRecord (now (bytes .entry)) .state) (now (bank .entry)) (now (file .entry))) ⌝ }

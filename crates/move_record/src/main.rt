@@ -8,30 +8,40 @@ use host::records::OLD_RECORD;
 use host::records::RECORD;
 use host::records::RECORD_FILE;
 use libc::STDOUT_FILENO;
+use record_layout::Judgement;
 use reply::Reply;
 
 fn usage() {
     complaints::say(b"move_record: give up RECORD, or back RECORD\n");
 }
 
-fn answer(r: Reply, moved: &[u8]) {
-    if reply::number(r) == 0 {
-        io::write_all(STDOUT_FILENO, moved);
-    } else {
-        complaints::refused(b"move_record", r);
+// A record of the other version may be a good one: what is wrong is the direction.
+fn wrong_version(r: Reply) {
+    complaints::refused(b"move_record", r);
+    complaints::say(b"move_record: byte 2, version: 1 to move up, 2 to move back\n");
+}
+
+fn answer(judgement: Judgement, length: usize, moved: &[u8]) {
+    let r = judgement.reply;
+    match r {
+        Reply::Done => {
+            io::write_all(STDOUT_FILENO, moved);
+        }
+        Reply::WrongVersion => wrong_version(r),
+        _ => record_fields::refused(b"move_record", r, judgement.place, length),
     }
 }
 
 fn move_up(old: &[u8]) {
     let mut moved = [0u8; RECORD];
-    let r = record_moves::move_up(old, &mut moved);
-    answer(r, &moved);
+    let judgement = record_moves::move_up(old, &mut moved);
+    answer(judgement, old.len(), &moved);
 }
 
 fn move_back(new: &[u8]) {
     let mut moved = [0u8; OLD_RECORD];
-    let r = record_moves::move_back(new, &mut moved);
-    answer(r, &moved);
+    let judgement = record_moves::move_back(new, &mut moved);
+    answer(judgement, new.len(), &moved);
 }
 
 fn move_by(word: &[u8], record: &[u8]) {

@@ -10,11 +10,12 @@ const BANK: usize = 16385;
 fn draw_record(record: &[u8], ula: &[u8], tile: &[u8]) {
     let read = record::read_record(record);
     let r = read.reply;
+    let place = read.place;
     if reply::number(r) == 0 {
         let s = read.state;
         output::show(s, ula, tile);
     } else {
-        complaints::refused(r);
+        complaints::record_refused(r, place, record.len());
     }
 }
 

@@ -1,4 +1,4 @@
-// What is wrong, in a line on standard error.
+// What is wrong, on standard error.
 use host::complaints;
 use reply::Reply;
 
@@ -10,4 +10,9 @@ pub fn usage() {
 
 pub fn refused(r: Reply) {
     complaints::refused(b"preview", r);
+}
+
+// A record of this length that is refused, with the place told.
+pub fn record_refused(r: Reply, place: usize, length: usize) {
+    record_fields::refused(b"preview", r, place, length);
 }

@@ -35,10 +35,11 @@ pub fn draw_standard() {
 pub fn draw_with(record: &[u8]) {
     let read = record::read_record(record);
     let r = read.reply;
+    let place = read.place;
     if reply::number(r) == 0 {
         let s = read.state;
         load_file(2, s);
     } else {
-        complaints::refused(r);
+        complaints::record_refused(r, place, record.len());
     }
 }

@@ -2,10 +2,10 @@
 mod reading;
 mod writing;
 
-pub use reading::read_as;
+pub use reading::judge_record;
 pub use reading::read_current;
 pub use reading::read_old;
 pub use reading::read_record;
-pub use reading::record_reply;
-pub use reading::reply_as;
+pub use record_stages::judge;
+pub use record_stages::reply_as;
 pub use writing::write_record;

@@ -2,10 +2,9 @@
 use mathlib.Core.Path.{_≡_, sym, ap, _∙_}
 use mathlib.Core.List.{List}
 use mathlib.Core.Bool.{Bool, _&&_}
-use Prim.Native.Nat.{ℕ, zero, suc, _+_, _*_, _/_, _%_, _≤_, _<_}
+use Prim.Native.Nat.{ℕ, _+_, _*_, _/_, _%_, _≤_, _<_}
 use native.Mathlib.Omega.{arith}
 use borrow.Author.Count.{below-more}
-use borrow.Author.Tests.{le-leb, lt-leb}
 use lib.Dec.{leb}
 use lib.ListN.{length, drop, getD, set}
 use lib.Seq.{getD-set-same, getD-set-other}
@@ -13,6 +12,7 @@ use Rattle.lists.proofs.Tab.{getD-tab, length-tab}
 use Rattle.state.specs.Lawful.{allColours}
 use Rattle.state.proofs.Colours.{colours-more, colours-end}
 use Rattle.record_layout.specs.Fields.{pair, fieldAt, rowAt}
+use Rattle.record_layout.proofs.BadAt.{high-byte}
 use Rattle.record_colours.specs.LowFirst.{LowFirst, AllLowFirst}
 
 pub pairs-more : (b ps : List ℕ) (at i x y : ℕ) → i < length ps → x ≡ getD b (at + 2 * i) 0 → y ≡ getD b (at + 2 * i + 1) 0 → x < 256 → y < 256
@@ -24,12 +24,6 @@ pairs-more b ps at i x y l ex ey hx hy h =
 
 pub colour-of : (b : List ℕ) (o v : ℕ) → LowFirst (getD b o 0) (getD b (o + 1) 0) v → v % 256 * 256 + v / 256 ≡ fieldAt pair b o
 colour-of b o v p = rw (p .low, p .high)
-
--- a colour is at most 511 exactly where its high byte is at most 1
-high-byte : (x y : ℕ) → y < 256 → leb (x * 256 + y) 511 ≡ leb x 1
-high-byte zero y h = le-leb (0 * 256 + y) 511 (omega arith)
-high-byte (suc zero) y h = le-leb (1 * 256 + y) 511 (omega arith)
-high-byte (suc (suc x)) y h = lt-leb (suc (suc x) * 256 + y) 511 (omega arith) ∙ sym (lt-leb (suc (suc x)) 1 (omega arith))
 
 -- the test of a palette goes on by one colour
 pub palette-more : (b : List ℕ) (at i v : ℕ) (ok : Bool) → i < 256 → LowFirst (getD b (at + 2 * i) 0) (getD b (at + 2 * i + 1) 0) v

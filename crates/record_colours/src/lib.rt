@@ -3,6 +3,7 @@
 mod reading;
 mod writing;
 
+pub use reading::bad_colour;
 pub use reading::colours_at;
 pub use reading::is_palette;
 pub use writing::put_colours;

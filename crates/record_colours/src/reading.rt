@@ -1,9 +1,11 @@
 // A palette read and judged where it stands.
 ghost use mathlib.Core.Path.{_≡_};
-ghost use Prim.Native.Nat.{_+_, _≤_};
+ghost use Prim.Native.Nat.{_+_, _*_, _≤_, _<_};
 ghost use lib.ListN.{length};
+ghost use Rattle.register_bounds.specs.Bounds.{colourFits};
 ghost use Rattle.state.specs.Lawful.{allColours};
 ghost use Rattle.record_layout.specs.Fields.{pair, rowAt};
+ghost use Rattle.record_layout.specs.Parts.{firstBadRow};
 ghost use Rattle.record_colours.specs.LowFirst.{AllLowFirst};
 use lists::u16_of;
 
@@ -51,4 +53,27 @@ pub fn is_palette(b: &[u8], at: usize) -> bool
         i += 1;
     }
     ok
+}
+
+// The place of the high byte of colour i of the palette at a place.
+fn high_byte_of(at: usize, i: usize) -> usize
+    requires { ⌜ (i < 256) × (at + 512 ≤ 18446744073709551615) ⌝ }
+    ensures { λ r. ⌜ r ≡ at + 2 * i ⌝ }
+{
+    2 * i + at
+}
+
+// The place of the first colour of the palette at a place that is above 511: that of its high byte, which tells it. `next` where none is.
+pub fn bad_colour(b: &[u8], at: usize, next: usize) -> usize
+    requires { ⌜ at + 512 ≤ length (now b) ⌝ }
+    ensures { λ r. ⌜ r ≡ firstBadRow pair 256 colourFits (now (b .entry)) at next ⌝ }
+{
+    let mut i = 0;
+    while i < 256 {
+        if b[at + 2 * i] > 1 {
+            return high_byte_of(at, i);
+        }
+        i += 1;
+    }
+    next
 }

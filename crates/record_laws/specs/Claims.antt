@@ -1,30 +1,30 @@
--- Rules 1.5, 7.7, 7.8, 7.11, 9.13 and 10.12: what holds of moves there and back. `Bytes` is what the type of a lent record gives.
+-- Rules 1.5, 7.7, 7.8, 7.11 and 10.12: what holds of moves there and back. `Bytes` is what the type of a lent record gives.
 use mathlib.Core.Path.{_≡_}
 use mathlib.Core.List.{List, _++_}
 use mathlib.Core.Bool.{true, cond}
 use Prim.Native.Nat.{ℕ, _-_}
 use lib.ListN.{length, take, drop}
 use Rattle.lists.specs.Bytes.{Bytes}
-use Rattle.reply.specs.declared.Reply.the-variants.{Done, BufferLength, NotRecord, PairsDiffer}
+use Rattle.reply.specs.declared.Reply.the-variants.{Done, BufferLength, PairsDiffer, WrongVersion}
 use Rattle.record_layout.specs.declared.Version.{Version}
 use Rattle.record_layout.specs.declared.Version.the-variants.{Version1, Version2}
 use Rattle.record_layout.specs.Version.{other, added}
 use Rattle.record_layout.specs.Places.{partsPlace, loresXPlace, ulaClipPlace}
-use Rattle.record_layout.specs.Record.{headOf, recordLength, stateAs, readOld, readRecord, writeReply, writtenIn}
+use Rattle.record_layout.specs.Record.{headOf, recordLength, stateAs, told, judged, readOld, readRecord, writeReply, writtenIn}
 use Rattle.record_layout.specs.Claims.{IsRecord}
-use Rattle.record_moves.specs.Moves.{pairsAgree, moveReply, movedIn}
+use Rattle.record_moves.specs.Moves.{pairsAgree, moveReply, moveJudged, movedIn}
 
 -- moving up is never refused for the pairs: in the state of an old record they agree
 abbrev pub OldPairsAgree : Type 0
 OldPairsAgree = (b : List ℕ) → pairsAgree (stateAs Version1 b) ≡ true
 
--- what a move answers, case by case: 3 for a target of the wrong length; else 13 for bytes that are no record of the version moved from, a record
--- of the other one among them; else 15 where the pairs differ
+-- what a move answers, case by case: 3 for a target of the wrong length; else what the bytes are refused for as a record of the version moved from,
+-- 17 at the version where they are one of the other; else 15 where the pairs differ, which comes after 18 and tells no place
 pub record MovesAnswer (v : Version) (b : List ℕ) (n : ℕ) : Type 0 where
-  pub unsized : (n ≡ recordLength (other v) → ⊥) → moveReply v b n ≡ BufferLength
-  pub none : n ≡ recordLength (other v) → (IsRecord v b → ⊥) → moveReply v b n ≡ NotRecord
-  pub already : n ≡ recordLength (other v) → IsRecord (other v) b → moveReply v b n ≡ NotRecord
-  pub judged : n ≡ recordLength (other v) → IsRecord v b → moveReply v b n ≡ cond (pairsAgree (stateAs v b)) Done PairsDiffer
+  pub unsized : (n ≡ recordLength (other v) → ⊥) → moveJudged v b n ≡ told BufferLength 0
+  pub none : n ≡ recordLength (other v) → (IsRecord v b → ⊥) → moveJudged v b n ≡ judged v b
+  pub already : n ≡ recordLength (other v) → IsRecord (other v) b → moveJudged v b n ≡ told WrongVersion 2
+  pub taken : n ≡ recordLength (other v) → IsRecord v b → moveJudged v b n ≡ told (cond (pairsAgree (stateAs v b)) Done PairsDiffer) 0
 
 abbrev pub MovesRefuse : Type 0
 MovesRefuse = (v : Version) (b : List ℕ) (n : ℕ) → Bytes b → MovesAnswer v b n

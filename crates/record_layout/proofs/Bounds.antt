@@ -15,6 +15,7 @@ use Rattle.register_bounds.specs.Bounds.{offsetYFits, halfFits, colourFits}
 use Rattle.state.specs.Lawful.{allColours, lawfulState}
 use Rattle.state.proofs.Kept.{Kept, lawful-kept, kept-lawful}
 use Rattle.record_layout.specs.Fields.{pair, fieldSize, fieldAt}
+use Rattle.record_layout.specs.Parts.{sizes}
 use Rattle.record_layout.specs.declared.Version.{Version}
 use Rattle.record_layout.specs.declared.Version.the-variants.{Version1, Version2}
 use Rattle.record_layout.specs.Layout.{isFlag, beforeScrolls, scrolls, afterScrolls, layout}
@@ -22,7 +23,8 @@ use Rattle.record_layout.specs.Places.{partsPlace, loresXPlace, loresYPl
 use Rattle.record_layout.specs.Record.{stateAs, recordLength, sound}
 use Rattle.record_layout.proofs.From.{stateFrom}
 use Rattle.record_layout.proofs.Whole.{whole-length}
-use Rattle.record_layout.proofs.Parts.{Good, placeOf, later, good-apart, good-join, sound-good, good-sound}
+use Rattle.record_layout.proofs.Parts.{Good, placeOf, later, good-apart, good-join}
+use Rattle.record_layout.proofs.Walk.{sound-good, good-sound}
 
 -- the colours of a row, one by one
 colours-append : (xs ys : List ℕ) → allColours (xs ++ ys) ≡ (allColours xs && allColours ys)
@@ -113,7 +115,7 @@ module _ (b : List ℕ) (x y at : ℕ) where
         free 4 ▸ free 4 ▸ k .ulaturn ▸ k .tileturn ▸ h ▸ (held-before ∙ k .half) ▸ k .border ▸ refl ▸ k .select ▸ p ▸ refl ▸ free 64
         ▸ first ▸ second ▸ third ▸ fourth ▸ tt
 
-same : (x y : Bool) → (x ≡ true → y ≡ true) → (y ≡ true → x ≡ true) → x ≡ y
+pub same : (x y : Bool) → (x ≡ true → y ≡ true) → (y ≡ true → x ≡ true) → x ≡ y
 same true y f g = sym (f refl)
 same false true f g = g refl
 same false false f g = refl
@@ -150,13 +152,16 @@ module _ (v : Version) (b : List ℕ) where
   abbrev tests : List Bool
   tests = isFlag (getD b (plusOnPlace v) 0) ∷ lawfulState (stateAs v b) ∷ []
 
+  whole : length b ≡ recordLength v → length b ≡ partsPlace + sizes (layout v)
+  whole l = omega (arith, l, whole-length v)
+
   -- no place is bad: the flags are 0 or 1, and the state is lawful
   pub sound-lawful : length b ≡ recordLength v → sound v b ≡ (isFlag (getD b (heldPlace v) 0) && isFlag (getD b (plusOnPlace v) 0) && lawfulState (stateAs v b))
   sound-lawful l =
       same (sound v b) (chain (isFlag (getD b (heldPlace v) 0)) tests)
       (λ e.
-      let t = good-held v b (sound-good v b (omega (arith, l, whole-length v)) e) in
+      let t = good-held v b (sound-good v b (whole l) e) in
       chain-join (isFlag (getD b (heldPlace v) 0)) tests (t .0) (t .1, (kept-lawful (stateAs v b) (t .2), tt)))
       (λ e.
       let r = chain-apart (isFlag (getD b (heldPlace v) 0)) tests e in
-      good-sound v b (held-good v b (r .0, r .1 .0, lawful-kept (stateAs v b) (r .1 .1 .0))))
+      good-sound v b (whole l) (held-good v b (r .0, r .1 .0, lawful-kept (stateAs v b) (r .1 .1 .0))))

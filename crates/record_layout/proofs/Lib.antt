@@ -1,5 +1,6 @@
 pub mod Fields
 pub mod Parts
+pub mod Walk
 pub mod From
 pub mod Whole
 pub mod Bounds
@@ -9,4 +10,8 @@ pub mod Runs
 pub mod Types
 pub mod RoundTrip
 pub mod Arguments
+pub mod Former
+pub mod Told
+pub mod BadAt
+pub mod Mended
 pub mod Claims

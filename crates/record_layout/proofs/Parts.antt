@@ -13,14 +13,10 @@ use lib.Dec.{eqb}
 use borrow.Author.Tests.{le-ltb, eq-eqb, eqb-true}
 use Rattle.lists.specs.Bytes.{Bytes}
 use Rattle.lists.specs.Search.{least, some}
-use Rattle.lists.proofs.Search.{least-found, least-none, some-not, not-both}
+use Rattle.lists.proofs.Search.{least-none, some-not, not-both}
 use Rattle.state.specs.declared.State.{State}
 use Rattle.record_layout.specs.Fields.{Width, byte, pair, fieldSize, fieldAt, rowBytes, rowAt}
 use Rattle.record_layout.specs.Parts.{Part, one, row, size, sizes, bytesOf, FromParts, stateAt, badPart, bad}
-use Rattle.record_layout.specs.declared.Version.{Version}
-use Rattle.record_layout.specs.Layout.{layout}
-use Rattle.record_layout.specs.Places.{partsPlace}
-use Rattle.record_layout.specs.Record.{firstBad, sound}
 use Rattle.record_layout.proofs.Fields.{row-length, row-back, row-forth}
 
 -- the rows of a state are as long as the parts say
@@ -112,28 +108,28 @@ good-join [] qs b at g h = h
 good-join (one bound field ∷ ps) qs b at g h = (g .0, good-join ps qs b (at + 1) (g .1) h)
 good-join (row w n bound field ∷ ps) qs b at g h = (g .0, good-join ps qs b (at + fieldSize w * n) (g .1) h)
 
-either : (a b : Bool) → a ≡ false → b ≡ false → (a || b) ≡ false
+pub either : (a b : Bool) → a ≡ false → b ≡ false → (a || b) ≡ false
 either a b e f = cc
 
-not-left : (a b : Bool) → (a || b) ≡ false → a ≡ false
+pub not-left : (a b : Bool) → (a || b) ≡ false → a ≡ false
 not-left true b e = e
 not-left false b e = refl
 
-not-right : (a b : Bool) → (a || b) ≡ false → b ≡ false
+pub not-right : (a b : Bool) → (a || b) ≡ false → b ≡ false
 not-right true b e = absurd (not-both refl e)
 not-right false b e = e
 
-kept : (a c : Bool) → (a ≡ true → c ≡ true) → (a && not c) ≡ false
+pub kept : (a c : Bool) → (a ≡ true → c ≡ true) → (a && not c) ≡ false
 kept true true h = refl
 kept true false h = sym (h refl)
 kept false c h = refl
 
-unkept : (a c : Bool) → a ≡ true → (a && not c) ≡ false → c ≡ true
+pub unkept : (a c : Bool) → a ≡ true → (a && not c) ≡ false → c ≡ true
 unkept true true h e = refl
 unkept true false h e = sym e
 unkept false c h e = absurd (not-both h refl)
 
-none : (p : ℕ → Bool) (n : ℕ) → ((i : ℕ) → i < n → p i ≡ false) → some p n ≡ false
+pub none : (p : ℕ → Bool) (n : ℕ) → ((i : ℕ) → i < n → p i ≡ false) → some p n ≡ false
 none p n h = le-ltb (least p n) n (omega (arith, least-none p n h))
 
 pub good-clear : (ps : List Part) (b : List ℕ) (at : ℕ) → Good ps b at → (k : ℕ) → bad ps b at k ≡ false
@@ -163,17 +159,3 @@ clear-good (row w n bound field ∷ ps) b at l h = (
       (not-left _ (bad ps b (at + fieldSize w * n) (at + fieldSize w * i)) (h (at + fieldSize w * i) lt)) m)),
   clear-good ps b (at + fieldSize w * n) (omega arith) (λ k m. not-right (badPart (row w n bound field) b at k) _ (h k m)),
 )
-
--- no place is bad: every field keeps its bound
-module _ (v : Version) (b : List ℕ) where
-  pub sound-good : length b ≡ partsPlace + sizes (layout v) → sound v b ≡ true → Good (layout v) b partsPlace
-  unfolding firstBad
-  sound-good l e =
-      let end : least (bad (layout v) b partsPlace) (length b) ≡ length b = eqb-true _ _ e in
-      clear-good (layout v) b partsPlace (omega arith) (λ k m. least-found (bad (layout v) b partsPlace) (length b) .before k (omega (arith, end, m)))
-
-  pub good-sound : Good (layout v) b partsPlace → sound v b ≡ true
-  unfolding firstBad
-  good-sound g =
-      eq-eqb (least (bad (layout v) b partsPlace) (length b)) (length b)
-      (sym (least-none (bad (layout v) b partsPlace) (length b) (λ k m. good-clear (layout v) b partsPlace g k)))

@@ -9,7 +9,6 @@ use borrow.Author.Tests.{eq-eqb, ne-eqb}
 use Rattle.lists.specs.Bytes.{Bytes}
 use Rattle.lists.proofs.Cond.{left-true, right-true, if-true, if-false}
 use Rattle.state.specs.declared.State.{State}
-use Rattle.state.specs.Answer.{done}
 use Rattle.state.specs.Lawful.{lawfulState}
 use Rattle.state.specs.Typed.{Typed}
 use Rattle.state.proofs.Kept.{lawful-kept, kept-lawful}
@@ -20,7 +19,7 @@ use Rattle.record_layout.specs.Parts.{bytesOf}
 use Rattle.record_layout.specs.Version.{versionNumber, keptIn}
 use Rattle.record_layout.specs.Layout.{isFlag, layout}
 use Rattle.record_layout.specs.Places.{countPlace, versionPlace, partsPlace, heldPlace, plusOnPlace}
-use Rattle.record_layout.specs.Record.{following, headOf, recordIn, recordLength, versionOf, counted, versioned, sound, accepted, stateAs, readAs}
+use Rattle.record_layout.specs.Record.{following, headOf, recordIn, recordLength, versionOf, counted, versioned, sound, accepted, stateAs, passed, readWith, readAs}
 use Rattle.record_layout.proofs.Fields.{seam, row-length}
 use Rattle.record_layout.proofs.Parts.{bytes-back}
 use Rattle.record_layout.proofs.Whole.{whole-length, fits, record-length, state-whole, bytes-whole}
@@ -74,14 +73,14 @@ module _ (s : State) (z : Typed s) where
   plus-place Version1 = past-clips s z _ 7
   plus-place Version2 = past-clips s z _ 7
 
-  record-counted : (v : Version) → counted v (recordIn v s) ≡ true
+  record-counted : (v : Version) → counted (recordIn v s) ≡ true
   unfolding counted
   record-counted Version1 = rw (record-length Version1 s (fits Version1 s z))
   record-counted Version2 = rw (record-length Version2 s (fits Version2 s z))
 
   record-versioned : (v : Version) → versioned v (recordIn v s) ≡ true
-  record-versioned Version1 = refl
-  record-versioned Version2 = refl
+  record-versioned Version1 = rw (record-length Version1 s (fits Version1 s z))
+  record-versioned Version2 = rw (record-length Version2 s (fits Version2 s z))
 
   module _ (v : Version) (h : lawfulState s ≡ true) where
     record-sound : sound v (recordIn v s) ≡ true
@@ -92,8 +91,8 @@ module _ (s : State) (z : Typed s) where
     pub record-accepted : accepted v (recordIn v s) ≡ true
     record-accepted = both (record-counted v) (both (record-versioned v) record-sound)
 
-    pub record-read : readAs v (recordIn v s) ≡ done (keptIn v s)
-    record-read = accepts v (recordIn v s) record-accepted ∙ ap done (state-whole v s (fits v s z))
+    pub record-read : readAs v (recordIn v s) ≡ readWith passed (keptIn v s)
+    record-read = accepts v (recordIn v s) record-accepted ∙ ap (readWith passed) (state-whole v s (fits v s z))
 
 -- the version of a record is told by its length
 pub version-told : (v : Version) (n : ℕ) → n ≡ recordLength v → versionOf n ≡ v

@@ -1,11 +1,11 @@
--- The stored record as a list of parts. All that is said of a record, its bytes, its length, the state in it and its
--- bad places, is said of such a list; the places of the parts are sums of their widths.
+-- Rules 7.13 and 9.18, and the stored record as a list of parts. All that is said of a record, its bytes, its length, the state in it
+-- and its bad places, is said of such a list; the places of the parts are sums of their widths.
 use Prim.Native.Nat.{ℕ, _+_, _*_, _-_}
 use mathlib.Core.List.{List, [], _∷_, _++_}
-use mathlib.Core.Bool.{Bool, false, not, _&&_, _||_}
+use mathlib.Core.Bool.{Bool, false, cond, not, _&&_, _||_}
 use lib.ListN.{getD}
-use lib.Dec.{eqb}
-use Rattle.lists.specs.Search.{some}
+use lib.Dec.{eqb, ltb}
+use Rattle.lists.specs.Search.{least, some}
 use Rattle.state.specs.declared.State.{State}
 use Rattle.record_layout.specs.Fields.{Width, fieldSize, fieldAt, rowBytes, rowAt}
 
@@ -51,6 +51,24 @@ abbrev pub stateAt : (ps : List Part) → FromParts ps → List ℕ → ℕ → 
 stateAt [] f b at = f
 stateAt (one bound field ∷ ps) f b at = stateAt ps (f (getD b at 0)) b (at + 1)
 stateAt (row w n bound field ∷ ps) f b at = stateAt ps (f (rowAt w n b at)) b (at + fieldSize w * n)
+
+-- the first field of a row, counted from 0, that is out of its bound; n where none is
+abbrev pub firstBadField : Width → ℕ → (ℕ → Bool) → List ℕ → ℕ → ℕ
+firstBadField w n bound b at = least (λ (i : ℕ). not (bound (fieldAt w b (at + fieldSize w * i)))) n
+
+-- its place, the row standing at a place of the bytes b: that of its first byte, so that a pair is bad at its high byte; `next` where none is
+unfoldable pub firstBadRow : Width → ℕ → (ℕ → Bool) → List ℕ → ℕ → ℕ → ℕ
+firstBadRow w n bound b at next = let i = firstBadField w n bound b at in cond (ltb i n) (at + fieldSize w * i) next
+
+-- the place of the first field of a part that is out of its bound; `next` where none is
+abbrev pub firstBadOf : Part → List ℕ → ℕ → ℕ → ℕ
+firstBadOf (one bound field) b at next = cond (bound (getD b (at - 1) 0) (getD b at 0)) next at
+firstBadOf (row w n bound field) b at next = firstBadRow w n bound b at next
+
+-- the same of parts in a row: one walk over them in their order
+abbrev pub firstBadIn : List Part → List ℕ → ℕ → ℕ → ℕ
+firstBadIn [] b at next = next
+firstBadIn (p ∷ ps) b at next = firstBadOf p b at (firstBadIn ps b (at + size p) next)
 
 -- a field of the part, which stands at a place of the bytes b, starts at place k and is out of its bound
 abbrev pub badPart : Part → List ℕ → ℕ → ℕ → Bool

@@ -1,4 +1,4 @@
--- Rules 7.7, 7.8, 9.3, 9.13, 9.15, 10.0, 10.9 and 10.12: a record moved to the other version, once over the version that it is moved from.
+-- Rules 7.7, 7.8, 9.3, 9.15 to 9.18, 10.0, 10.9 and 10.12: a record moved to the other version, once over the version that it is moved from.
 use Prim.Native.Nat.{ℕ}
 use mathlib.Core.List.{List, [], _∷_}
 use mathlib.Core.Bool.{Bool, cond, _&&_}
@@ -9,9 +9,10 @@ use Rattle.reply.specs.declared.Reply.the-variants.{Done, BufferLength, PairsDi
 use Rattle.reply.specs.Reply.{isDone}
 use Rattle.reply.specs.First.{firstHit}
 use Rattle.state.specs.declared.State.{State}
+use Rattle.record_layout.specs.declared.Judgement.{Judgement}
 use Rattle.record_layout.specs.declared.Version.{Version}
 use Rattle.record_layout.specs.Version.{other}
-use Rattle.record_layout.specs.Record.{recordIn, recordLength, stateAs, readAs}
+use Rattle.record_layout.specs.Record.{recordIn, recordLength, stateAs, told, judged}
 
 -- $26 is $32, and $27 is $33
 abbrev pub pairsAgree : State → Bool
@@ -29,9 +30,16 @@ targetReply v target = cond (eqb target (recordLength (other v))) Done BufferLen
 abbrev pub pairsReply : Version → List ℕ → Reply
 pairsReply v b = cond (pairsAgree (stateAs v b)) Done PairsDiffer
 
--- moving: 3, 13, 15
+-- moving: 3; 16, 17 or 18; 15
 unfoldable pub moveReply : Version → List ℕ → ℕ → Reply
-moveReply v b target = firstHit (targetReply v target ∷ readAs v b .reply ∷ pairsReply v b ∷ [])
+moveReply v b target = firstHit (targetReply v target ∷ judged v b .reply ∷ pairsReply v b ∷ [])
+
+-- and the place that it tells: that of the record's judgement, unless 3 comes before it
+unfoldable pub movePlace : Version → List ℕ → ℕ → ℕ
+movePlace v b target = cond (isDone (targetReply v target)) (judged v b .place) 0
+
+abbrev pub moveJudged : Version → List ℕ → ℕ → Judgement
+moveJudged v b target = told (moveReply v b target) (movePlace v b target)
 
 -- and the target afterwards
 unfoldable pub movedIn : Version → List ℕ → List ℕ → List ℕ

@@ -1,34 +1,42 @@
 // Each stage asks for what the one before it has shown.
 ghost use mathlib.Core.Path.{_≡_};
-ghost use mathlib.Core.Bool.{_&&_};
+ghost use mathlib.Core.Bool.{false, _&&_};
 ghost use Prim.Native.Nat.{_<_};
 ghost use lib.ListN.{length};
+ghost use Rattle.reply.specs.Reply.{replyNumber};
 ghost use Rattle.state.specs.Lawful.{allColours};
 ghost use Rattle.record_layout.specs.Places.{versionPlace};
-ghost use Rattle.record_layout.specs.Record.{recordLength, counted, versioned, sound, accepted, stateAs};
+ghost use Rattle.record_layout.specs.Record.{recordLength, counted, versioned, sound, accepted, judged, stateAs};
 use lists::usize_of;
+use record_faults::first_bad;
+use record_layout::Judgement;
 use record_layout::Version;
 use record_places::added;
 use record_places::following_of;
+use record_places::length_of;
 use record_places::number_of;
 use record_places::places;
+use reply::Reply;
+use reply::number;
 use state::lawful_registers;
 
-fn has_count(b: &[u8], v: Version) -> bool
-    ensures { λ r. ⌜ r ≡ counted v (now (b .entry)) ⌝ }
+fn has_count(b: &[u8]) -> bool
+    ensures { λ r. ⌜ r ≡ counted (now (b .entry)) ⌝ }
 {
     if b.len() < 2 {
         return false;
     }
     let following = usize_of(b[places::COUNT]) * 256 + usize_of(b[places::COUNT + 1]);
-    (b.len() == 2 + following) & (following == following_of(v))
+    let first = following_of(Version::Version1);
+    let second = following_of(Version::Version2);
+    (b.len() == 2 + following) & ((following == first) | (following == second))
 }
 
 fn has_version(b: &[u8], v: Version) -> bool
     requires { ⌜ versionPlace < length (now b) ⌝ }
     ensures { λ r. ⌜ r ≡ versioned v (now (b .entry)) ⌝ }
 {
-    b[places::VERSION] == number_of(v)
+    (b.len() == length_of(v)) & (b[places::VERSION] == number_of(v))
 }
 
 fn has_palettes(b: &[u8], v: Version) -> bool
@@ -64,12 +72,67 @@ fn has_bounds(b: &[u8], v: Version) -> bool
 }
 
 // The bytes are the record of a lawful state in a version.
-pub fn is_record(b: &[u8], v: Version) -> bool
+fn is_record(b: &[u8], v: Version) -> bool
     ensures { λ r. ⌜ r ≡ accepted v (now (b .entry)) ⌝ }
 {
-    if has_count(b, v) {
-        has_version(b, v) & has_bounds(b, v)
+    if has_count(b) {
+        if has_version(b, v) {
+            has_bounds(b, v)
+        } else {
+            false
+        }
     } else {
         false
     }
+}
+
+// What bytes that are no such record are refused for: 16, 17, 18.
+fn refusal_of(b: &[u8], v: Version) -> Reply
+    requires { ⌜ accepted v (now b) ≡ false ⌝ }
+    ensures { λ r. ⌜ r ≡ judged v (now (b .entry)) .reply ⌝ }
+{
+    if has_count(b) {
+        if has_version(b, v) {
+            Reply::BadField
+        } else {
+            Reply::WrongVersion
+        }
+    } else {
+        Reply::WrongCount
+    }
+}
+
+// What the bytes are refused for as a record of a version. Good ones meet one test and no place is looked for, so that a line is drawn no
+// slower for the three replies.
+pub fn reply_as(b: &[u8], v: Version) -> Reply
+    ensures { λ r. ⌜ r ≡ judged v (now (b .entry)) .reply ⌝ }
+{
+    if is_record(b, v) {
+        Reply::Done
+    } else {
+        refusal_of(b, v)
+    }
+}
+
+// The place that the reply tells. Fields are walked over only where one is bad.
+fn place_of(b: &[u8], v: Version, n: u8) -> usize
+    requires { ⌜ n ≡ replyNumber (judged v (now b) .reply) ⌝ }
+    ensures { λ r. ⌜ r ≡ judged v (now (b .entry)) .place ⌝ }
+{
+    if n == 18 {
+        first_bad(b, v)
+    } else if n == 17 {
+        places::VERSION
+    } else {
+        places::COUNT
+    }
+}
+
+// What the bytes are refused for as a record of a version, and where.
+pub fn judge(b: &[u8], v: Version) -> Judgement
+    ensures { λ r. ⌜ r ≡ judged v (now (b .entry)) ⌝ }
+{
+    let reply = reply_as(b, v);
+    let place = place_of(b, v, number(reply));
+    Judgement { reply, place }
 }

@@ -3,7 +3,7 @@ use Prim.Native.Nat.{ℕ}
 use mathlib.Core.Bool.{Bool}
 use lib.Dec.{eqb}
 use Rattle.reply.specs.declared.Reply.{Reply}
-use Rattle.reply.specs.declared.Reply.the-variants.{Done, NoLine, BankLength, BufferLength, NotLawful, NoMode, LoresWithTiles, NextWithPlus, FarOffset, NoRegister, OutOfBounds, TooManyTiles, PackingBounds, NotRecord, NoForm, PairsDiffer}
+use Rattle.reply.specs.declared.Reply.the-variants.{Done, NoLine, BankLength, BufferLength, NotLawful, NoMode, LoresWithTiles, NextWithPlus, FarOffset, NoRegister, OutOfBounds, TooManyTiles, PackingBounds, NoForm, PairsDiffer, WrongCount, WrongVersion, BadField}
 
 -- the number of each row of the table
 abbrev pub replyNumber : Reply → ℕ
@@ -33,12 +33,17 @@ replyNumber OutOfBounds = 10
 replyNumber TooManyTiles = 11
 -- allowed above 256, or offset above 15
 replyNumber PackingBounds = 12
--- bytes are not a record of a lawful state
-replyNumber NotRecord = 13
+-- 13 is retired: 16, 17 and 18 stand in its place
 -- a file that is no screen, or a screen that has no form as a file
 replyNumber NoForm = 14
 -- a record that cannot be moved back: $26 is not $32, or $27 is not $33
 replyNumber PairsDiffer = 15
+-- a record's stated number is missing, is not the number of bytes following, or is that of no version
+replyNumber WrongCount = 16
+-- a record's version is not read here, or is not the one of its length
+replyNumber WrongVersion = 17
+-- a field of a record is out of its bounds
+replyNumber BadField = 18
 
 -- a reply that refuses nothing
 abbrev pub isDone : Reply → Bool

@@ -22,12 +22,14 @@ pub enum Reply {
     OutOfBounds,
     TooManyTiles,
     PackingBounds,
-    NotRecord,
     NoForm,
     PairsDiffer,
+    WrongCount,
+    WrongVersion,
+    BadField,
 }
 
-// The paper's number of a reply.
+// The paper's number of a reply. 13 is retired: 16, 17 and 18 stand in its place.
 pub fn number(r: Reply) -> u8
     ensures { λ n. ⌜ n ≡ replyNumber r ⌝ }
 {
@@ -45,8 +47,10 @@ pub fn number(r: Reply) -> u8
         Reply::OutOfBounds => 10,
         Reply::TooManyTiles => 11,
         Reply::PackingBounds => 12,
-        Reply::NotRecord => 13,
         Reply::NoForm => 14,
         Reply::PairsDiffer => 15,
+        Reply::WrongCount => 16,
+        Reply::WrongVersion => 17,
+        Reply::BadField => 18,
     }
 }

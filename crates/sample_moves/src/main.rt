@@ -1,4 +1,4 @@
-// Records moved up and back into marked targets: the reply, and what is in the target then. old.rec is of version 1 and new.rec the
+// Records moved up and back into marked targets: the reply, its place, and what is in the target then. old.rec is of version 1 and new.rec the
 // same moved up, both written out by hand; other.rec is of version 2, with values of $26 and $27 that are not those of $32 and $33.
 use host::files::bytes_of;
 use host::marks::MARK;
@@ -7,7 +7,7 @@ use host::records::OLD_RECORD;
 use host::records::RECORD;
 use host::records::RECORD_FILE;
 use host::report;
-use reply::Reply;
+use record_layout::Judgement;
 
 // Whether a target is the bytes of a file.
 fn is_file(target: &[u8], name: &[u8]) -> bool {
@@ -16,9 +16,12 @@ fn is_file(target: &[u8], name: &[u8]) -> bool {
     check::same(target, &bytes[..n])
 }
 
-// The reply, and what is in the target: the mark, the record that is expected, or another.
-fn print_answer(r: Reply, target: &[u8], expected: &[u8]) {
+// The reply and its place, and what is in the target: the mark, the record that is expected, or another.
+fn print_answer(judgement: Judgement, target: &[u8], expected: &[u8]) {
+    let r = judgement.reply;
     report::number(reply::number(r) as u64);
+    report::word(b" at ");
+    report::number(judgement.place as u64);
     if untouched(target) {
         report::word(b" untouched\n");
     } else if is_file(target, expected) {

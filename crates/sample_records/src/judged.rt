@@ -5,8 +5,8 @@ use host::records::OLD_RECORD;
 use host::records::RECORD;
 use host::records::RECORD_FILE;
 use host::report;
+use record_layout::RecordRead;
 use reply::Reply;
-use state::Answer;
 use state::State;
 
 // Whether the record of a state is these bytes; those of an old record, once it is moved back.
@@ -22,10 +22,12 @@ fn written_as(s: State, bytes: &[u8]) -> bool {
     }
 }
 
-// A reading's reply; then whether writing gives the same bytes, or whether a refusal gives the reset state.
-pub fn judge_answer(a: Answer, bytes: &[u8]) {
+// A reading's reply and place; then whether writing gives the same bytes, or whether a refusal gives the reset state.
+pub fn judge_answer(a: RecordRead, bytes: &[u8]) {
     let r = a.reply;
     report::number(reply::number(r) as u64);
+    report::word(b" at ");
+    report::number(a.place as u64);
     if let Reply::Done = r {
         if written_as(a.state, bytes) {
             report::word(b" same\n");

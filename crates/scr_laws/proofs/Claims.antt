@@ -10,7 +10,7 @@ use lib.Dec.{eqb}
 use Rattle.lists.specs.Placed.{placed}
 use Rattle.lists.proofs.Cond.{if-true, if-false, either}
 use Rattle.reply.specs.declared.Reply.{Reply}
-use Rattle.reply.specs.declared.Reply.the-variants.{Done, BankLength, BufferLength, NotLawful, NotRecord, NoForm}
+use Rattle.reply.specs.declared.Reply.the-variants.{Done, BankLength, BufferLength, NotLawful, NoForm, WrongVersion}
 use Rattle.reply.specs.Reply.{isDone}
 use Rattle.reply.specs.First.{firstOf, firstHit}
 use Rattle.reply.proofs.Done.{is-done, test-met}
@@ -22,7 +22,8 @@ use Rattle.state.specs.Lawful.{lawfulState, lawfulReply}
 use Rattle.state.specs.Typed.{Typed}
 use Rattle.record_layout.specs.declared.Version.the-variants.{Version1}
 use Rattle.record_layout.specs.Version.{current, keptIn}
-use Rattle.record_layout.specs.Record.{readRecord, readCurrent}
+use Rattle.record_layout.specs.declared.RecordRead.{RecordRead}
+use Rattle.record_layout.specs.Record.{passed, readWith, readRecord, readCurrent}
 use Rattle.record_layout.specs.Claims.{IsRecord}
 use Rattle.record_layout.proofs.Stages.{accepts, done-accepted}
 use Rattle.record_layout.proofs.RoundTrip.{long, state-lawful}
@@ -202,7 +203,7 @@ screenStored b bank file y z e =
     let k = readable (readCurrent b .reply) (length bank) (shapeOf file .mode) e in
     let own = read-told current b (long current b (done-accepted current b (k .sound))) in
     current-read (stateRead (readCurrent b .state) file) (read-typed (readCurrent b .state) file (r .1) z) (read-lawful (readCurrent b .state) file ∙ r .0)
-    ∙ ap (λ (a : Answer). done (stateRead (a .state) file)) (sym own)
+    ∙ ap (λ (a : RecordRead). readWith passed (stateRead (a .state) file)) (sym own)
 
 -- a piece of one test
 piece-not-four : (t : Bool) (r : Reply) → NotFour r → NotFour (cond t Done r)
@@ -235,11 +236,11 @@ old-lawful : (b : List ℕ) (r : IsRecord Version1 b) → lawfulReply (keptIn Ve
 old-lawful b r =
     let a = record-taken Version1 b r in
     let e = sym (old-read b r) ∙ read-told Version1 b (old-long b r) ∙ accepts Version1 b a in
-    ap (λ (x : Answer). lawfulReply (x .state)) e ∙ if-true _ _ _ (state-lawful Version1 b a)
+    ap (λ (x : RecordRead). lawfulReply (x .state)) e ∙ if-true _ _ _ (state-lawful Version1 b a)
 
-old-unread : (b bank file : List ℕ) → IsRecord Version1 b → length bank ≡ 16384 → lentReadReply b bank file ≡ NotRecord
+old-unread : (b bank file : List ℕ) → IsRecord Version1 b → length bank ≡ 16384 → lentReadReply b bank file ≡ WrongVersion
 unfolding readJudged firstHit firstOf
-old-unread b bank file r l = rw (old-refused b r, l)
+old-unread b bank file r l = ap (λ (x : RecordRead). readJudged (x .reply) (length bank) (shapeOf file .mode)) (old-refused b r) ∙ rw l
 
 pub screenOld : ScreenOld
 unfolding lentAfter

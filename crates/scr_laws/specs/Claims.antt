@@ -6,14 +6,13 @@ use mathlib.Core.List.{List, _++_}
 use mathlib.Core.Bool.{true, false, cond}
 use lib.ListN.{length, take, drop, getD}
 use Rattle.lists.specs.Bytes.{Bytes}
-use Rattle.reply.specs.declared.Reply.the-variants.{Done, NotLawful, NotRecord}
+use Rattle.reply.specs.declared.Reply.the-variants.{Done, NotLawful, WrongVersion}
 use Rattle.state.specs.declared.State.{State}
-use Rattle.state.specs.Answer.{done}
 use Rattle.state.specs.Lawful.{lawfulState}
 use Rattle.state.specs.Typed.{Typed}
 use Rattle.record_layout.specs.declared.Version.the-variants.{Version1}
 use Rattle.record_layout.specs.Version.{keptIn}
-use Rattle.record_layout.specs.Record.{readRecord}
+use Rattle.record_layout.specs.Record.{passed, readWith, readRecord}
 use Rattle.record_layout.specs.Claims.{IsRecord}
 use Rattle.scr_forms.specs.Forms.{formOf, inParts}
 use Rattle.scr_state.specs.Screen.{withScreen}
@@ -68,15 +67,15 @@ ScreenAskedAgain =
 unfoldable pub ScreenStored : Type 0
 ScreenStored =
     (b bank file : List ℕ) → Bytes b → Bytes file → lentReadReply b bank file ≡ Done
-    → readRecord (recordAfter Done b file) ≡ done (stateRead (readRecord b .state) file)
+    → readRecord (recordAfter Done b file) ≡ readWith passed (stateRead (readRecord b .state) file)
 
 -- 4 never comes from a lent record
 pub record ScreenNeverNotLawful : Type 0 where
   pub reading : (b bank file : List ℕ) → lentReadReply b bank file ≡ NotLawful → ⊥
   pub writing : (b bank file : List ℕ) → lentWriteReply b bank file ≡ NotLawful → ⊥
 
--- an old record: no screen file is read into it, and one is written from it as from the state in it moved up
+-- an old record: no screen file is read into it, which is 17, and one is written from it as from the state in it moved up
 pub record ScreenOld : Type 0 where
   pub reading : (b bank file : List ℕ) → IsRecord Version1 b → length bank ≡ 16384
-      → (lentReadReply b bank file ≡ NotRecord) × (recordAfter (lentReadReply b bank file) b file ≡ b)
+      → (lentReadReply b bank file ≡ WrongVersion) × (recordAfter (lentReadReply b bank file) b file ≡ b)
   pub writing : (b bank file : List ℕ) (r : IsRecord Version1 b) → lentWriteReply b bank file ≡ writeReply (keptIn Version1 (r .0)) bank file

@@ -4,13 +4,18 @@
 use crate::lent::{same, same_items, Lent};
 use crate::seen::{Call, Seen};
 use crate::states::record_of;
-use model::reply::{DONE, NOT_A_RECORD, NO_FORM, PAIRS_DIFFER, WRONG_BUFFER};
+use model::reply::{
+    BAD_FIELD, DONE, NO_FORM, PAIRS_DIFFER, WRONG_BUFFER, WRONG_COUNT, WRONG_VERSION,
+};
 use model::scr::{lent_read_scr, lent_write_scr};
 use model::{State, SCREEN_LENGTH};
-use narephon::raw;
+use narephon::{raw, Refusal};
 
 /// What came of a comparison: a reply that both gave, or what differs.
 pub type Checked = Result<u8, String>;
+
+/// A reply, and the place in the record that it tells, 0 where it tells none.
+pub type Told = (u8, usize);
 
 /// Bytes to lend.
 pub fn lend(record: &[u8]) -> Lent<u8> {
@@ -22,6 +27,17 @@ fn number<T>(answer: &Result<T, narephon::Reply>) -> u8 {
         Ok(_) => DONE,
         Err(reply) => reply.number(),
     }
+}
+
+/// Does the wrapper give the reply, and the place just where one is told?
+fn same_refusal<T>(what: &str, answer: &Result<T, Refusal>, wanted: Told) -> Result<(), String> {
+    let got = match answer {
+        Ok(_) => (DONE, None),
+        Err(refusal) => (refusal.reply.number(), refusal.place),
+    };
+    let (reply, place) = wanted;
+    let tells = matches!(reply, WRONG_COUNT | WRONG_VERSION | BAD_FIELD);
+    same(what, got, (reply, tells.then_some(place)))
 }
 
 /// A call that changes a record, of version 2 only. The record lent is the state, so afterwards it is the record of the
@@ -37,11 +53,11 @@ fn changing(
     let before = record.items().to_vec();
     let mut copy = before.clone();
     let (reply, wanted) = match model::read_new(&before) {
-        (DONE, state) => {
+        (DONE, _, state) => {
             let (reply, after) = modelled(&state);
             (reply, record_of(&after))
         }
-        (reply, _) => (reply, before.clone()),
+        (reply, ..) => (reply, before.clone()),
     };
     same("reply", lent(record.pointer(), record.count()), reply)?;
     record.check("record", &wanted)?;
@@ -101,8 +117,8 @@ fn reading(
 ) -> Checked {
     let before = record.items().to_vec();
     let (reply, wanted) = match model::read_record(&before) {
-        (DONE, state) => modelled(&state),
-        (reply, _) => (reply, 0),
+        (DONE, _, state) => modelled(&state),
+        (reply, ..) => (reply, 0),
     };
     // Another value than the one wanted, so that one left as it was is seen.
     let mut value = !wanted;
@@ -161,26 +177,29 @@ pub fn reset(record: &mut Lent<u8>, seen: &mut Seen) -> Checked {
     Ok(reply)
 }
 
-/// A record judged and left, by whether the model reads it; and loaded by the wrapper, as one of version 2.
-pub fn check_record(record: &mut Lent<u8>, seen: &mut Seen) -> Checked {
+/// A record judged and left, as the model reads it; and loaded by the wrapper, as one of version 2.
+pub fn check_record(record: &mut Lent<u8>, seen: &mut Seen) -> Result<Told, String> {
     let before = record.items().to_vec();
-    let (reply, state) = model::read_record(&before);
-    let got = unsafe { raw::narephon_check_record(record.pointer(), record.count()) };
-    same("check_record: reply", got, reply)?;
+    let (reply, place, state) = model::read_record(&before);
+    let wanted = (reply, place);
+    // Another place than the one wanted, so that one left as it was is seen.
+    let mut set = !(place as u32);
+    let got = unsafe { raw::narephon_check_record(record.pointer(), record.count(), &mut set) };
+    same("check_record: reply and place", (got, set as usize), wanted)?;
     record.check("check_record: record", &before)?;
     let answer = narephon::check_record(&before);
-    same("check_record: wrapper's reply", number(&answer), reply)?;
+    same_refusal("check_record: wrapper's answer", &answer, wanted)?;
     let loaded = narephon::load_record(&before);
-    same("load_record: reply", number(&loaded), reply)?;
+    same_refusal("load_record: answer", &loaded, wanted)?;
     if let Ok(loaded) = loaded {
         same_items("load_record: record", &loaded, &record_of(&state))?;
     }
-    seen.lent(Call::CheckRecord, &before, reply);
-    Ok(reply)
+    seen.told(Call::CheckRecord, &before, wanted);
+    Ok(wanted)
 }
 
-/// A move into a target of `length` bytes; its reply, and the target.
-type Moved = Result<(u8, Vec<u8>), String>;
+/// A move into a target of `length` bytes: what it tells, and the target.
+type Moved = Result<(Told, Vec<u8>), String>;
 
 pub fn move_up(record: &mut Lent<u8>, length: usize, seen: &mut Seen) -> Moved {
     let moved = moving(
@@ -206,41 +225,42 @@ pub fn move_back(record: &mut Lent<u8>, length: usize, seen: &mut Seen) -> Moved
 
 /// Names the call in a difference, and counts it where there is none.
 fn noted(call: Call, record: &Lent<u8>, length: usize, seen: &mut Seen, moved: Moved) -> Moved {
-    let (reply, target) = moved.map_err(|what| format!("{call:?} into {length} bytes: {what}"))?;
-    seen.lent(call, record.items(), reply);
-    if matches!(reply, NOT_A_RECORD | PAIRS_DIFFER) {
-        if let (DONE, state) = model::read_new(record.items()) {
+    let (told, target) = moved.map_err(|what| format!("{call:?} into {length} bytes: {what}"))?;
+    seen.told(call, record.items(), told);
+    if matches!(told.0, WRONG_VERSION | PAIRS_DIFFER) {
+        if let (DONE, _, state) = model::read_new(record.items()) {
             seen.unmoved(call, &state);
         }
     }
-    Ok((reply, target))
+    Ok((told, target))
 }
 
 fn moving(
     record: &mut Lent<u8>,
     length: usize,
-    modelled: fn(&[u8], &mut [u8]) -> u8,
-    lent: unsafe extern "C" fn(*const u8, usize, *mut u8, usize) -> u8,
-    wrapped: impl Fn(&[u8]) -> Result<Vec<u8>, narephon::Reply>,
+    modelled: fn(&[u8], &mut [u8]) -> Told,
+    lent: unsafe extern "C" fn(*const u8, usize, *mut u8, usize, *mut u32) -> u8,
+    wrapped: impl Fn(&[u8]) -> Result<Vec<u8>, Refusal>,
 ) -> Moved {
     let before = record.items().to_vec();
     let blank = vec![0xAA; length];
     let mut wanted = blank.clone();
-    let reply = modelled(&before, &mut wanted);
+    let told = modelled(&before, &mut wanted);
     let mut target = lend(&blank);
     let (pointer, count) = (target.pointer(), target.count());
-    // SAFETY: each pointer and length are those of one live buffer, and the target overlaps nothing.
-    let got = unsafe { lent(record.pointer(), record.count(), pointer, count) };
-    same("reply", got, reply)?;
+    let mut set = !(told.1 as u32);
+    // SAFETY: each pointer and length are those of one live buffer, and target and place overlap nothing.
+    let got = unsafe { lent(record.pointer(), record.count(), pointer, count, &mut set) };
+    same("reply and place", (got, set as usize), told)?;
     target.check("target", &wanted)?;
     record.check("record", &before)?;
     // The wrapper's target has the right length always.
-    if reply != WRONG_BUFFER {
+    if told.0 != WRONG_BUFFER {
         let answer = wrapped(&before);
-        same("wrapper's reply", number(&answer), reply)?;
+        same_refusal("wrapper's answer", &answer, told)?;
         same_items("wrapper's record", &answer.unwrap_or(blank), &wanted)?;
     }
-    Ok((reply, wanted))
+    Ok((told, wanted))
 }
 
 /// The two banks of a line. Where there is one, it is lent as both.
@@ -283,17 +303,17 @@ impl Banks {
     }
 }
 
-/// The reply and dots of the model, and its state. 13 stands in the place of 4, after 1, 2 and 3: the reset state,
-/// which is refused for nothing of its own, tells whether one of those comes first.
+/// The reply and dots of the model, and its state. 16, 17 and 18 stand in the place of 4, after 1, 2 and 3: the reset
+/// state, which is refused for nothing of its own, tells whether one of those comes first.
 fn modelled_line(record: &[u8], banks: &Banks, line: u32, dots: &mut [u16]) -> (u8, State) {
     let (ula, tile) = banks.bytes();
-    let (reply, state) = model::read_record(record);
+    let (reply, _, state) = model::read_record(record);
     if reply == DONE {
         return (model::draw(line, ula, tile, &state, dots), state);
     }
     let mut unused = dots.to_vec();
     match model::draw(line, ula, tile, &state, &mut unused) {
-        DONE => (NOT_A_RECORD, state),
+        DONE => (reply, state),
         earlier => (earlier, state),
     }
 }
@@ -365,7 +385,7 @@ pub fn read_scr(
     seen: &mut Seen,
 ) -> Checked {
     let before = record.items().to_vec();
-    let (_, state) = model::read_record(&before);
+    let (_, _, state) = model::read_record(&before);
     let reply = compared_reading(record, bank, file)
         .map_err(|what| format!("read_scr of {} bytes: {what}", file.len()))?;
     seen.lent(Call::ReadScr, &before, reply);
@@ -443,7 +463,7 @@ pub fn write_scr_into(
     length: usize,
     seen: &mut Seen,
 ) -> Result<(u8, Vec<u8>), String> {
-    let (_, state) = model::read_record(record.items());
+    let (_, _, state) = model::read_record(record.items());
     let (reply, file) = compared_writing(record, bank, length)
         .map_err(|what| format!("write_scr into {length} bytes: {what}"))?;
     seen.lent(Call::WriteScr, record.items(), reply);

@@ -5,6 +5,7 @@ use crate::calls::{
     read_register, read_scr, reset, screen_value, write_port, write_register, write_scr, Banks,
     Packing,
 };
+use crate::fault_jobs;
 use crate::lent::{same, same_items, Lent};
 use crate::move_jobs;
 use crate::pictures;
@@ -13,8 +14,8 @@ use crate::screen_jobs;
 use crate::screens::any_file;
 use crate::seen::Seen;
 use crate::states::{
-    any_record_of, bank, damage, hold, lawful, lead, line, old_record_of, record_of, value,
-    INK_MASKS, PALETTES, SETTINGS,
+    any_record_of, bank, damage, hold, lawful, lead, line, old_record_of, record_of, state_number,
+    value, ALL_FAULTS, INK_MASKS, PALETTES, SETTINGS,
 };
 use model::reply::DONE;
 use model::{State, BANK_LENGTH, DOTS, OLD_RECORD_LENGTH, RECORD_LENGTH, SCREEN_LENGTH};
@@ -29,7 +30,7 @@ pub struct Job {
 
 /// Every job. Rounds of neighbouring seeds take register numbers, port numbers, bytes, lengths and settings in turn, so
 /// the rounds of a job are multiples of those where each is to be met.
-pub const JOBS: [Job; 18] = [
+pub const JOBS: [Job; 19] = [
     Job {
         name: "packings",
         rounds: 12 * pictures::KINDS,
@@ -64,6 +65,11 @@ pub const JOBS: [Job; 18] = [
         name: "record lengths",
         rounds: 2 * 2_400,
         run: record_lengths,
+    },
+    Job {
+        name: "told faults",
+        rounds: ALL_FAULTS,
+        run: fault_jobs::told,
     },
     Job {
         name: "moves",
@@ -330,8 +336,8 @@ fn record_bytes(seed: u64, seen: &mut Seen) -> Done {
             2 => read_register(&mut record, number, seen)?,
             3 => write_scr(&mut record, &mut bank, seen)?.0,
             4 => read_scr(&mut record, &mut bank, &file, seen)?,
-            5 => move_up(&mut record, RECORD_LENGTH, seen)?.0,
-            6 => move_back(&mut record, OLD_RECORD_LENGTH, seen)?.0,
+            5 => move_up(&mut record, RECORD_LENGTH, seen)?.0 .0,
+            6 => move_back(&mut record, OLD_RECORD_LENGTH, seen)?.0 .0,
             _ => read_port(&mut record, port, seen)?,
         };
         record.set(&bytes);
@@ -340,7 +346,7 @@ fn record_bytes(seed: u64, seen: &mut Seen) -> Done {
     Ok(())
 }
 
-/// A record cut short, or with more bytes behind it.
+/// A record cut short, or with more bytes behind it; then the same with its number stated rightly.
 fn record_lengths(seed: u64, seen: &mut Seen) -> Done {
     let mut random = Random::new(seed);
     let state = lawful(&mut random);
@@ -354,7 +360,16 @@ fn record_lengths(seed: u64, seen: &mut Seen) -> Done {
         length => length as usize,
     };
     bytes.resize(length, 0);
-    every_call(&mut random, &bytes, seen)
+    every_call(&mut random, &bytes, seen)?;
+    if length < 2 {
+        return Ok(());
+    }
+    state_number(&mut bytes);
+    let mut record = lend(&bytes);
+    check_record(&mut record, seen)?;
+    move_up(&mut record, RECORD_LENGTH, seen)?;
+    move_back(&mut record, OLD_RECORD_LENGTH, seen)?;
+    Ok(())
 }
 
 /// A state led to a setting, and banks for it.

@@ -1,6 +1,7 @@
 //! Narephon's exported calls held to `model` on random inputs, and what the comparison and the benchmark share.
 
 pub mod calls;
+pub mod fault_jobs;
 pub mod jobs;
 pub mod lent;
 pub mod move_jobs;

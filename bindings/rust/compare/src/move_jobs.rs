@@ -6,7 +6,7 @@ use crate::lent::{same, same_items, Lent};
 use crate::random::Random;
 use crate::seen::Seen;
 use crate::states::{bank, lawful, lead, line, old_record_of, record_of};
-use model::reply::{DONE, NOT_A_RECORD};
+use model::reply::{DONE, WRONG_VERSION};
 use model::{DOTS, OLD_RECORD_LENGTH, RECORD_LENGTH};
 
 /// An old record and one of version 2, each moved both ways, then into targets of other lengths too.
@@ -28,9 +28,9 @@ pub fn moves(seed: u64, seen: &mut Seen) -> Done {
 /// An old record moves up alone. What comes of it draws the same line, and moves back to it.
 fn up_and_back(random: &mut Random, old: &mut Lent<u8>, seen: &mut Seen) -> Done {
     let (refused, _) = move_back(old, OLD_RECORD_LENGTH, seen)?;
-    same("reply to an old record back", refused, NOT_A_RECORD)?;
-    let (reply, up) = move_up(old, RECORD_LENGTH, seen)?;
-    same("reply to an old record up", reply, DONE)?;
+    same("answer to an old record back", refused, (WRONG_VERSION, 2))?;
+    let (told, up) = move_up(old, RECORD_LENGTH, seen)?;
+    same("answer to an old record up", told, (DONE, 0))?;
     let mut up = lend(&up);
     let mut banks = Banks::one(bank(random));
     let line = line(random);
@@ -44,9 +44,9 @@ fn up_and_back(random: &mut Random, old: &mut Lent<u8>, seen: &mut Seen) -> Done
 /// A record of version 2 moves back alone, where its pairs agree; what comes of it moves up to it.
 fn back_and_up(new: &mut Lent<u8>, seen: &mut Seen) -> Done {
     let (refused, _) = move_up(new, RECORD_LENGTH, seen)?;
-    same("reply to version 2 up", refused, NOT_A_RECORD)?;
-    let (reply, back) = move_back(new, OLD_RECORD_LENGTH, seen)?;
-    if reply != DONE {
+    same("answer to version 2 up", refused, (WRONG_VERSION, 2))?;
+    let (told, back) = move_back(new, OLD_RECORD_LENGTH, seen)?;
+    if told.0 != DONE {
         return Ok(());
     }
     let (_, up) = move_up(&mut lend(&back), RECORD_LENGTH, seen)?;

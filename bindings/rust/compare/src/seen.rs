@@ -1,9 +1,10 @@
-//! How often each reply, each kind of call and each kind of line was reached.
+//! How often each reply, each kind of call, each place that is told and each kind of line was reached.
 
-use crate::states::INK_MASKS;
-use model::reply::{DONE, NOT_A_RECORD};
+use crate::calls::Told;
+use crate::states::{faults, INK_MASKS, PALETTES};
+use model::reply::{BAD_FIELD, DONE, WRONG_COUNT, WRONG_VERSION};
 use model::ula::{colouring, Colouring};
-use model::{read_old, ula_mode, Mode, State};
+use model::{read_old, ula_mode, Mode, State, OLD_RECORD_LENGTH, RECORD_LENGTH};
 use std::collections::BTreeMap;
 use std::fmt::Write;
 
@@ -28,32 +29,54 @@ pub enum Call {
 }
 
 /// The replies that each call can give. No call gives 4: an unlawful state can only come in a record, and such a record
-/// is 13.
+/// is 18.
 const POSSIBLE: [(Call, &[u8]); 15] = [
     (Call::Reset, &[0, 3]),
-    (Call::CheckRecord, &[0, 13]),
-    (Call::MoveUp, &[0, 3, 13]),
-    (Call::MoveBack, &[0, 3, 13, 15]),
-    (Call::NextFrame, &[0, 13]),
-    (Call::WriteRegister, &[0, 9, 10, 13]),
-    (Call::WritePort, &[0, 9, 10, 13]),
-    (Call::ReadRegister, &[0, 9, 13]),
-    (Call::ReadPort, &[0, 9, 13]),
-    (Call::Draw, &[0, 1, 2, 3, 5, 6, 7, 8, 13]),
-    (Call::ReadScr, &[0, 2, 13, 14]),
-    (Call::WriteScr, &[0, 2, 3, 13, 14]),
+    (Call::CheckRecord, &[0, 16, 17, 18]),
+    (Call::MoveUp, &[0, 3, 16, 17, 18]),
+    (Call::MoveBack, &[0, 3, 15, 16, 17, 18]),
+    (Call::NextFrame, &[0, 16, 17, 18]),
+    (Call::WriteRegister, &[0, 9, 10, 16, 17, 18]),
+    (Call::WritePort, &[0, 9, 10, 16, 17, 18]),
+    (Call::ReadRegister, &[0, 9, 16, 17, 18]),
+    (Call::ReadPort, &[0, 9, 16, 17, 18]),
+    (Call::Draw, &[0, 1, 2, 3, 5, 6, 7, 8, 16, 17, 18]),
+    (Call::ReadScr, &[0, 2, 14, 16, 17, 18]),
+    (Call::WriteScr, &[0, 2, 3, 14, 16, 17, 18]),
     (Call::ScreenValue, &[0, 10]),
     (Call::Pack, &[0, 3, 11, 12]),
     (Call::Fewest, &[0, 3, 11]),
 ];
 
-/// The replies are 0 to 15.
-const REPLIES: u8 = 16;
+/// The replies are 0 to 18, but for 13, which is retired.
+fn replies() -> impl Iterator<Item = u8> {
+    (0..=18).filter(|&reply| reply != 13)
+}
+
+/// The calls that tell a place, each with the length of a record whose fields it judges.
+const TELLING: [(Call, usize); 4] = [
+    (Call::CheckRecord, RECORD_LENGTH),
+    (Call::CheckRecord, OLD_RECORD_LENGTH),
+    (Call::MoveUp, OLD_RECORD_LENGTH),
+    (Call::MoveBack, RECORD_LENGTH),
+];
+
+/// The places that 18 has to be told at in a record of so many bytes: of every field of one byte that has a bound, and of
+/// the first, the middle and the last colour of each palette.
+fn places(length: usize) -> Vec<usize> {
+    let palettes = length - PALETTES;
+    let wanted = |&place: &usize| {
+        place < palettes || [0, 128, 255].contains(&((place - palettes) / 2 % 256))
+    };
+    let places = faults(length).into_iter().map(|(place, _)| place);
+    places.filter(wanted).collect()
+}
 
 /// Kinds of a call. Of a screen file: its form, by mode and colours, what a refusal by 14 was for, or what the state was
 /// besides. Of an old record: that it was taken, or refused for its version. Of a record of version 2: why it was not
-/// moved. Of a line: that its mode was scrolled otherwise than the others.
-const KINDS: [(Call, &str); 41] = [
+/// moved. Of bytes that are no record: what was wrong with their number or version. Of a line: that its mode was scrolled
+/// otherwise than the others.
+const KINDS: [(Call, &str); 56] = [
     (Call::CheckRecord, OLD),
     (Call::ReadRegister, OLD),
     (Call::ReadPort, OLD),
@@ -64,10 +87,25 @@ const KINDS: [(Call, &str); 41] = [
     (Call::WritePort, OLD_REFUSED),
     (Call::ReadScr, OLD_REFUSED),
     (Call::MoveBack, OLD_REFUSED),
-    (Call::MoveUp, "13 for a record of version 2"),
+    (Call::MoveUp, NEW_REFUSED),
     (Call::MoveBack, "15 for X"),
     (Call::MoveBack, "15 for Y"),
     (Call::MoveBack, "15 for both"),
+    (Call::CheckRecord, NO_NUMBER),
+    (Call::CheckRecord, NOT_COUNTED),
+    (Call::CheckRecord, NO_RECORDS_NUMBER),
+    (Call::CheckRecord, NO_VERSION),
+    (Call::CheckRecord, OTHER_LENGTH),
+    (Call::MoveUp, NO_NUMBER),
+    (Call::MoveUp, NOT_COUNTED),
+    (Call::MoveUp, NO_RECORDS_NUMBER),
+    (Call::MoveUp, NO_VERSION),
+    (Call::MoveUp, OTHER_LENGTH),
+    (Call::MoveBack, NO_NUMBER),
+    (Call::MoveBack, NOT_COUNTED),
+    (Call::MoveBack, NO_RECORDS_NUMBER),
+    (Call::MoveBack, NO_VERSION),
+    (Call::MoveBack, OTHER_LENGTH),
     (Call::Draw, "mode 0 with two scrolls"),
     (Call::Draw, "mode 1 with two scrolls"),
     (Call::Draw, "mode 2 with two scrolls"),
@@ -98,7 +136,31 @@ const KINDS: [(Call, &str); 41] = [
 ];
 
 const OLD: &str = "an old record";
-const OLD_REFUSED: &str = "13 for an old record";
+const OLD_REFUSED: &str = "17 for an old record";
+const NEW_REFUSED: &str = "17 for a record of version 2";
+const NO_NUMBER: &str = "16 for no number";
+const NOT_COUNTED: &str = "16 for a number that does not count its bytes";
+const NO_RECORDS_NUMBER: &str = "16 for a number that counts its bytes and is no record's";
+const NO_VERSION: &str = "17 for a version that there is not";
+const OTHER_LENGTH: &str = "17 for the version of the other length";
+
+/// What was wrong with the start of bytes that were refused.
+fn wrong_start(record: &[u8], reply: u8) -> Option<&'static str> {
+    let number = record.first_chunk().map(|&bytes| u16::from_be_bytes(bytes));
+    match (reply, number) {
+        (WRONG_COUNT, None) => Some(NO_NUMBER),
+        (WRONG_COUNT, Some(number)) if usize::from(number) + 2 == record.len() => {
+            Some(NO_RECORDS_NUMBER)
+        }
+        (WRONG_COUNT, _) => Some(NOT_COUNTED),
+        (WRONG_VERSION, _) => match (record.len(), record[2]) {
+            (RECORD_LENGTH, 2) | (OLD_RECORD_LENGTH, 1) => None,
+            (_, 1 | 2) => Some(OTHER_LENGTH),
+            _ => Some(NO_VERSION),
+        },
+        _ => None,
+    }
+}
 
 /// The form of a file that was read or written, by its length.
 fn form(length: usize) -> &'static str {
@@ -163,6 +225,8 @@ pub struct Seen {
     /// Lines in ULANext's colours, by the ink mask.
     masks: BTreeMap<u8, u64>,
     kinds: BTreeMap<(Call, &'static str), u64>,
+    /// The places that 18 told, by the call and the record's length.
+    places: BTreeMap<(Call, usize, usize), u64>,
 }
 
 impl Seen {
@@ -178,8 +242,19 @@ impl Seen {
         }
         match reply {
             DONE => self.kind(call, OLD),
-            NOT_A_RECORD => self.kind(call, OLD_REFUSED),
+            WRONG_VERSION => self.kind(call, OLD_REFUSED),
             _ => {}
+        }
+    }
+
+    /// What a call that was lent a record told of it.
+    pub fn told(&mut self, call: Call, record: &[u8], (reply, place): Told) {
+        self.lent(call, record, reply);
+        if let Some(what) = wrong_start(record, reply) {
+            self.kind(call, what);
+        }
+        if reply == BAD_FIELD {
+            *self.places.entry((call, record.len(), place)).or_default() += 1;
         }
     }
 
@@ -187,7 +262,7 @@ impl Seen {
     pub fn unmoved(&mut self, call: Call, state: &State) {
         let pairs = (state.ula_x == state.lores_x, state.ula_y == state.lores_y);
         let what = match (call, pairs) {
-            (Call::MoveUp, _) => "13 for a record of version 2",
+            (Call::MoveUp, _) => NEW_REFUSED,
             (_, (false, true)) => "15 for X",
             (_, (true, false)) => "15 for Y",
             _ => "15 for both",
@@ -277,6 +352,9 @@ impl Seen {
         for (&key, count) in &other.kinds {
             *self.kinds.entry(key).or_default() += count;
         }
+        for (&key, count) in &other.places {
+            *self.places.entry(key).or_default() += count;
+        }
     }
 
     fn calls_of(&self, kind: (Call, &'static str)) -> u64 {
@@ -289,6 +367,11 @@ impl Seen {
 
     fn lines_under(&self, mask: u8) -> u64 {
         self.masks.get(&mask).copied().unwrap_or(0)
+    }
+
+    fn told_at(&self, call: Call, length: usize, place: usize) -> u64 {
+        let key = (call, length, place);
+        self.places.get(&key).copied().unwrap_or(0)
     }
 
     fn lines_where(&self, wanted: impl Fn(Mode, Colouring, Tiles) -> bool) -> u64 {
@@ -319,7 +402,20 @@ impl Seen {
                 missing.push(format!("ULANext, mask {mask}"));
             }
         }
+        missing.extend(self.missing_places());
         missing.extend(self.missing_lines());
+        missing
+    }
+
+    fn missing_places(&self) -> Vec<String> {
+        let mut missing = Vec::new();
+        for (call, length) in TELLING {
+            for place in places(length) {
+                if self.told_at(call, length, place) == 0 {
+                    missing.push(format!("{call:?} of {length} bytes: 18 at {place}"));
+                }
+            }
+        }
         missing
     }
 
@@ -345,6 +441,7 @@ impl Seen {
             let calls = self.calls_of((call, what));
             let _ = writeln!(text, "{call:?}, {what}: {calls} calls");
         }
+        text += &self.place_report();
         for (mode, name) in MODES {
             let lines = self.lines_where(|m, _, _| m == mode);
             let _ = writeln!(text, "mode {name}: {lines} lines");
@@ -360,25 +457,40 @@ impl Seen {
         text + &self.line_report()
     }
 
+    fn place_report(&self) -> String {
+        let mut text = String::new();
+        for (call, length) in TELLING {
+            let all = self.places.iter();
+            let told = all.filter(|((by, of, _), _)| (*by, *of) == (call, length));
+            let counts: Vec<u64> = told.map(|(_, count)| *count).collect();
+            let (places, calls) = (counts.len(), counts.iter().sum::<u64>());
+            let _ = writeln!(
+                text,
+                "{call:?} of {length} bytes, 18 told at {places} places: {calls} calls"
+            );
+        }
+        text
+    }
+
     fn reply_report(&self) -> String {
         let mut text = String::from("calls by reply:\n              ");
-        for reply in 0..REPLIES {
+        for reply in replies() {
             let _ = write!(text, "{reply:>8}");
         }
         text.push('\n');
         for (call, _) in POSSIBLE {
             let _ = write!(text, "{:<14}", format!("{call:?}"));
-            for reply in 0..REPLIES {
+            for reply in replies() {
                 let _ = write!(text, "{:>8}", self.replies_of(call, reply));
             }
             text.push('\n');
         }
         text += "all           ";
-        for reply in 0..REPLIES {
+        for reply in replies() {
             let all = POSSIBLE.map(|(call, _)| self.replies_of(call, reply));
             let _ = write!(text, "{:>8}", all.iter().sum::<u64>());
         }
-        text + "\nreply 4 never comes: a record of an unlawful state is 13\n"
+        text + "\nreply 4 never comes: a record of an unlawful state is 18\n"
     }
 
     fn line_report(&self) -> String {

@@ -16,7 +16,7 @@ pub fn old_record_of(state: &State) -> Vec<u8> {
     let mut one_scroll = state.clone();
     (one_scroll.ula_x, one_scroll.ula_y) = (state.lores_x, state.lores_y);
     let mut old = vec![0; OLD_RECORD_LENGTH];
-    let reply = model::move_back(&record_of(&one_scroll), &mut old);
+    let (reply, _) = model::move_back(&record_of(&one_scroll), &mut old);
     assert_eq!(reply, 0, "the state is not lawful");
     old
 }
@@ -225,10 +225,66 @@ pub const PALETTES: usize = 2_048;
 /// How far from a record's end the held flag stands, in either version.
 const HELD: usize = 2_119;
 
+/// A field out of its bounds: its place, and a byte that it cannot have.
+pub type Fault = (usize, u8);
+
+/// Those of one byte in version 2: $43, $42, $4C, $68, $6B, $2F, $6E, $6F, $33, $27, both turns, the held flag, the held
+/// byte, the border, $BF3B and ULAplus.
+const FAULTS: [Fault; 17] = [
+    (6, 0x10),
+    (8, 5),
+    (10, 16),
+    (11, 0x02),
+    (12, 0x81),
+    (14, 4),
+    (17, 64),
+    (18, 64),
+    (20, 192),
+    (22, 192),
+    (31, 4),
+    (32, 4),
+    (33, 2),
+    (34, 1),
+    (35, 8),
+    (37, 128),
+    (38, 2),
+];
+
+/// How many faults [`faults`] has of both versions: version 1 has no $27.
+pub const ALL_FAULTS: u64 = 17 + 16 + 2 * 1_024;
+
+/// A fault of each field that has a bound, from the front: in a record of so many bytes, of version 1 or 2.
+pub fn faults(length: usize) -> Vec<Fault> {
+    let mut faults: Vec<Fault> = match length {
+        RECORD_LENGTH => FAULTS.to_vec(),
+        // $27, at 22, is not there, and what follows it stands two places before.
+        _ => {
+            let others = FAULTS.into_iter().filter(|(place, _)| *place != 22);
+            let moved = |place| if place < 22 { place } else { place - 2 };
+            others.map(|(place, byte)| (moved(place), byte)).collect()
+        }
+    };
+    faults.extend(
+        (length - PALETTES..length)
+            .step_by(2)
+            .map(|place| (place, 2)),
+    );
+    faults
+}
+
+/// Puts a field out of its bounds. A held byte is, once none is held.
+pub fn put_fault(record: &mut [u8], (place, byte): Fault) {
+    let held = record.len() - HELD;
+    if place == held + 1 && record[held] == 1 {
+        record[held] = 0;
+    }
+    record[place] = byte;
+}
+
 /// Damages the record of a lawful state, of either version. What comes out may still be one.
 pub fn damage(random: &mut Random, record: &mut Vec<u8>) {
     let length = record.len();
-    match random.below(13) {
+    match random.below(16) {
         0..=4 => spoil_byte(random, record),
         5 => {
             let place = random.below(length as u64) as usize;
@@ -249,10 +305,11 @@ pub fn damage(random: &mut Random, record: &mut Vec<u8>) {
             let rest = random.bytes(length - 3);
             record[3..].copy_from_slice(&rest);
         }
-        11 => {
-            // The start of a version, or the version of one and the number of the other.
-            let starts = [[8, 100, 1], [8, 102, 2], [8, 100, 2], [8, 102, 1]];
-            record[..3].copy_from_slice(&random.pick(&starts));
+        11 | 12 => damage_start(random, record),
+        13 => {
+            for _ in 0..1 + random.below(3) {
+                put_fault(record, random.pick(&faults(length)));
+            }
         }
         _ => {
             for _ in 0..random.below(5) {
@@ -260,6 +317,34 @@ pub fn damage(random: &mut Random, record: &mut Vec<u8>) {
             }
         }
     }
+}
+
+/// Another number, version or both; the fields are now and then bad as well, so that the order shows.
+fn damage_start(random: &mut Random, record: &mut Vec<u8>) {
+    if random.one_in(2) {
+        let fault = random.pick(&faults(record.len()));
+        put_fault(record, fault);
+    }
+    let any = random.byte();
+    match random.below(3) {
+        0 => record[2] = random.pick(&[0, 1, 2, 3, 255, any]),
+        1 => {
+            let length = random.pick(&[2, 3, 2_149, 2_150, 2_151, 2_152, 2_153, 4_302]);
+            record.resize(length, 0);
+            state_number(record);
+        }
+        _ => {
+            // The start of a version, or the version of one and the number of the other.
+            let starts = [[8, 100, 1], [8, 102, 2], [8, 100, 2], [8, 102, 1]];
+            record[..3].copy_from_slice(&random.pick(&starts));
+        }
+    }
+}
+
+/// Makes the first two of at least two bytes the number of those that follow.
+pub fn state_number(record: &mut [u8]) {
+    let following = (record.len() - 2) as u16;
+    record[..2].copy_from_slice(&following.to_be_bytes());
 }
 
 /// Another byte in one place, mostly among the first, which have the most bounds, or in the high half of a colour.

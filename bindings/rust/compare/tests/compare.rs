@@ -96,10 +96,10 @@ fn every_call_against_the_model() {
     assert!(missing.is_empty(), "never reached: {}", missing.join("; "));
 }
 
-/// 54 replies, 41 kinds of call, 8 ink masks and 138 kinds of line are asked for.
+/// 76 replies, 56 kinds of call, 8 ink masks, 114 places that are told and 138 kinds of line are asked for.
 #[test]
 fn what_is_not_reached_is_missed() {
-    assert_eq!(Seen::default().missing().len(), 54 + 41 + 8 + 138);
+    assert_eq!(Seen::default().missing().len(), 76 + 56 + 8 + 114 + 138);
 }
 
 /// The preview's sample: its record, which is an old one, its ULA bank and its tile bank, in the folder `sample`.
@@ -122,7 +122,7 @@ fn stored_sums() -> Vec<String> {
 /// The sums of the sample's lines. Model and library draw them alike, by an old record and by it moved up.
 fn drawn_alike(record: &[u8]) -> Vec<String> {
     let (ula, tile) = (sample("ula"), sample("tile"));
-    let (reply, state) = model::read_record(record);
+    let (reply, _, state) = model::read_record(record);
     assert_eq!(reply, 0, "the sample's record");
     let moved = narephon::move_up(record).expect("an old record");
     let mut sums = Vec::new();

@@ -10,7 +10,7 @@ mod state;
 
 pub use draw::draw;
 pub use pack::{fewest, pack, CHAINED, MARKED, PLAIN};
-pub use record::{read_record, write_record, OLD_RECORD_LENGTH, RECORD_LENGTH};
+pub use record::{check_record, read_record, write_record, OLD_RECORD_LENGTH, RECORD_LENGTH};
 pub use registers::{write_port, write_register};
 pub use state::{lawful, State};
 

@@ -1,6 +1,9 @@
 //! Register and port writes, in place.
 
-use crate::state::{lawful, palette_written, solid, State};
+use crate::state::{
+    control_fits, lawful, offset_y_fits, palette_written, select_fits, solid, tile_control_fits,
+    tile_transparent_fits, tile_x_high_fits, ula_control_fits, State,
+};
 use crate::widen;
 
 /// Writes a register; a refusal leaves the state.
@@ -44,17 +47,17 @@ fn write_bounded(state: &mut State, number: u8, value: u8) -> u8 {
                 state.ula_turn = 0;
             }
         }
-        0x27 if value < 192 => state.ula_y = value,
-        0x2F if value < 4 => state.tile_x_high = value,
-        0x33 if value < 192 => state.lores_y = value,
+        0x27 if offset_y_fits(value) => state.ula_y = value,
+        0x2F if tile_x_high_fits(value) => state.tile_x_high = value,
+        0x33 if offset_y_fits(value) => state.lores_y = value,
         0x42 if solid(value) => state.ink_mask = value,
-        0x43 if palette_written(value) < 4 => {
+        0x43 if control_fits(value) => {
             drop_half(state);
             state.palette_control = value;
         }
-        0x4C if value < 16 => state.tile_transparent = value,
-        0x68 if value & 0x3E == 0 => state.ula_control = value,
-        0x6B if value & 0x0F == 0 => state.tile_control = value,
+        0x4C if tile_transparent_fits(value) => state.tile_transparent = value,
+        0x68 if ula_control_fits(value) => state.ula_control = value,
+        0x6B if tile_control_fits(value) => state.tile_control = value,
         0x1C | 0x27 | 0x2F | 0x33 | 0x42 | 0x43 | 0x4C | 0x68 | 0x6B => return 10,
         _ => return 9,
     }
@@ -101,7 +104,7 @@ pub fn write_port(state: &mut State, port: u16, value: u8) -> u8 {
     match port {
         0x00FE => state.border = value & 7,
         0x00FF => state.timex = value,
-        0xBF3B if value < 128 => state.select = value,
+        0xBF3B if select_fits(value) => state.select = value,
         0xBF3B => return 10,
         0xFF3B if state.select < 64 => state.plus[usize::from(state.select)] = value,
         0xFF3B => state.plus_on = value & 1 != 0,

@@ -130,27 +130,78 @@ pub(crate) fn palette_written(control: u8) -> usize {
     }
 }
 
+// Rule 3.31: the bounds of single fields.
+
+pub(crate) fn control_fits(value: u8) -> bool {
+    palette_written(value) < 4
+}
+
+pub(crate) fn offset_y_fits(value: u8) -> bool {
+    value < 192
+}
+
+pub(crate) fn tile_transparent_fits(value: u8) -> bool {
+    value < 16
+}
+
+pub(crate) fn ula_control_fits(value: u8) -> bool {
+    value & 0x3E == 0
+}
+
+pub(crate) fn tile_control_fits(value: u8) -> bool {
+    value & 0x0F == 0
+}
+
+pub(crate) fn tile_x_high_fits(value: u8) -> bool {
+    value < 4
+}
+
+pub(crate) fn base_fits(value: u8) -> bool {
+    value < 64
+}
+
+pub(crate) fn select_fits(value: u8) -> bool {
+    value < 128
+}
+
+pub(crate) fn border_fits(value: u8) -> bool {
+    value < 8
+}
+
+pub(crate) fn turn_fits(value: u8) -> bool {
+    value < 4
+}
+
+pub(crate) fn half_fits(held: bool, half: u8) -> bool {
+    held || half == 0
+}
+
+/// A colour, or several of them joined by OR.
+pub(crate) fn colour_fits(colour: u16) -> bool {
+    colour < 512
+}
+
 /// Rule 3.31: does every field keep its bounds?
 pub fn lawful(state: &State) -> bool {
-    let small = state.ula_y < 192
-        && state.lores_y < 192
+    let small = offset_y_fits(state.ula_y)
+        && offset_y_fits(state.lores_y)
         && solid(state.ink_mask)
-        && palette_written(state.palette_control) < 4
-        && state.tile_transparent < 16
-        && state.ula_control & 0x3E == 0
-        && state.tile_control & 0x0F == 0
-        && state.tile_x_high < 4
-        && state.map_base < 64
-        && state.definition_base < 64
-        && state.select < 128
-        && state.border < 8
-        && state.ula_turn < 4
-        && state.tile_turn < 4
-        && (state.held || state.half == 0);
+        && control_fits(state.palette_control)
+        && tile_transparent_fits(state.tile_transparent)
+        && ula_control_fits(state.ula_control)
+        && tile_control_fits(state.tile_control)
+        && tile_x_high_fits(state.tile_x_high)
+        && base_fits(state.map_base)
+        && base_fits(state.definition_base)
+        && select_fits(state.select)
+        && border_fits(state.border)
+        && turn_fits(state.ula_turn)
+        && turn_fits(state.tile_turn)
+        && half_fits(state.held, state.half);
     small && colours_lawful(&state.palettes)
 }
 
-/// Colours are at most 511 when their OR is.
+/// Colours keep their bound when their OR does.
 fn colours_lawful(palettes: &[[u16; 256]; 4]) -> bool {
     let mut all = 0;
     for palette in palettes {
@@ -158,5 +209,5 @@ fn colours_lawful(palettes: &[[u16; 256]; 4]) -> bool {
             all |= colour;
         }
     }
-    all < 512
+    colour_fits(all)
 }

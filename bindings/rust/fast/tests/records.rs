@@ -96,30 +96,60 @@ fn old_record_of(state: &model::State) -> Vec<u8> {
     let mut one_scroll = state.clone();
     (one_scroll.ula_x, one_scroll.ula_y) = (state.lores_x, state.lores_y);
     let mut old = vec![0; fast::OLD_RECORD_LENGTH];
-    assert_eq!(model::move_back(&record_of(&one_scroll), &mut old), 0);
+    assert_eq!(model::move_back(&record_of(&one_scroll), &mut old), (0, 0));
     old
+}
+
+/// Both read the same, and the reply; a record that is only judged, too.
+fn read_alike(bytes: &[u8]) -> u8 {
+    let (reply, place, state) = model::read_record(bytes);
+    assert_eq!(fast::read_record(bytes), (reply, place, quick(&state)));
+    assert_eq!(fast::check_record(bytes), (reply, place));
+    reply
 }
 
 #[test]
 fn records_read() {
     let mut random = Random::new(15);
-    let mut seen = [[0; 14]; 2];
+    let mut seen = [[0; 19]; 2];
     for round in 0..6_000 {
         let old = round % 2;
         let mut bytes = [record_of, old_record_of][old](&lawful_state(&mut random));
         if round % 3 != 0 {
-            // Mostly among the first bytes, which have the most bounds.
-            let bound = random.pick(&[42, 2_150]);
-            bytes[random.below(bound) as usize] = random.byte();
+            for _ in 0..1 + random.below(3) {
+                // Mostly among the first bytes, which have the most bounds.
+                let bound = random.pick(&[42, 2_150]);
+                bytes[random.below(bound) as usize] = random.byte();
+            }
         }
         if random.chance(10) {
-            bytes.resize(random.pick(&[0, 2, 2_149, 2_150, 2_151, 2_152]), 0);
+            bytes.resize(random.pick(&[0, 1, 2, 2_149, 2_150, 2_151, 2_152]), 0);
         }
-        let (reply, state) = model::read_record(&bytes);
-        assert_eq!(fast::read_record(&bytes), (reply, quick(&state)));
-        seen[old][usize::from(reply)] += 1;
+        seen[old][usize::from(read_alike(&bytes))] += 1;
     }
     for seen in seen {
-        assert!(seen[0] > 500 && seen[13] > 500);
+        assert!(seen[0] > 500 && seen[16] > 100 && seen[17] > 30 && seen[18] > 500);
+    }
+}
+
+/// One byte of a record at a time: every place has the same bound in both, with
+/// a half held and without.
+#[test]
+fn each_place_of_a_record() {
+    let mut random = Random::new(16);
+    for held in [true, false] {
+        let mut state = lawful_state(&mut random);
+        state.held = held;
+        state.half = if held { random.byte() } else { 0 };
+        for mut bytes in [record_of(&state), old_record_of(&state)] {
+            for place in 0..bytes.len() {
+                let own = bytes[place];
+                for byte in [0, 1, 2, 4, 8, 16, 64, 128, 192, 255] {
+                    bytes[place] = byte;
+                    read_alike(&bytes);
+                }
+                bytes[place] = own;
+            }
+        }
     }
 }

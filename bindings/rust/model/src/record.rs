@@ -1,6 +1,9 @@
 //! The stored record in both of its versions: section 7.
 
-use crate::reply::{Reply, DONE, NOT_A_RECORD, NOT_LAWFUL, PAIRS_DIFFER, WRONG_BUFFER};
+use crate::fields::{colour_at, first_bad, says_yes};
+use crate::reply::{
+    Reply, BAD_FIELD, DONE, NOT_LAWFUL, PAIRS_DIFFER, WRONG_BUFFER, WRONG_COUNT, WRONG_VERSION,
+};
 use crate::state::{lawful, State};
 
 /// Rule 7.4: the bytes of a record, which is one of version 2.
@@ -11,28 +14,31 @@ pub const OLD_RECORD_LENGTH: usize = 2_150;
 
 /// Rule 7.1: the versions.
 #[derive(Clone, Copy, Debug, PartialEq, Eq)]
-enum Version {
+pub(crate) enum Version {
     One,
     Two,
 }
 
 impl Version {
-    /// Rule 7.1: the three bytes that a record starts with, the number of those
-    /// that follow the first two and then the version.
-    fn start(self) -> [u8; 3] {
-        let (following, number): (u16, u8) = match self {
-            Version::One => (2_148, 1),
-            Version::Two => (2_150, 2),
-        };
-        let [high, low] = following.to_be_bytes();
-        [high, low, number]
+    /// Rule 7.1: the number that a record states, that of the bytes following it.
+    fn following(self) -> u16 {
+        match self {
+            Version::One => 2_148,
+            Version::Two => 2_150,
+        }
     }
 
-    fn length(self) -> usize {
+    fn number(self) -> u8 {
         match self {
-            Version::One => OLD_RECORD_LENGTH,
-            Version::Two => RECORD_LENGTH,
+            Version::One => 1,
+            Version::Two => 2,
         }
+    }
+
+    /// Rule 7.1: the three bytes that a record starts with.
+    pub(crate) fn start(self) -> [u8; 3] {
+        let [high, low] = self.following().to_be_bytes();
+        [high, low, self.number()]
     }
 }
 
@@ -102,65 +108,94 @@ fn register_bytes(state: &State) -> [u8; 18] {
     ]
 }
 
-/// Rules 7.5, 9.13 and 10.7: the state of a record of either version, or 13 and
-/// the reset state.
-pub fn read_record(bytes: &[u8]) -> (Reply, State) {
+/// Rules 7.5 and 10.7: the state of a record of either version, or 16, 17, 18 in
+/// this order and the reset state. Between them is the place that the refusal
+/// tells, 0 where there is none.
+pub fn read_record(bytes: &[u8]) -> (Reply, usize, State) {
     read_as(bytes, &[Version::One, Version::Two])
 }
 
 /// Rule 7.9: the same of version 1 alone.
-pub fn read_old(bytes: &[u8]) -> (Reply, State) {
+pub fn read_old(bytes: &[u8]) -> (Reply, usize, State) {
     read_as(bytes, &[Version::One])
 }
 
 /// Rule 7.10: the same of version 2 alone, as a call that changes a record does.
-pub fn read_new(bytes: &[u8]) -> (Reply, State) {
+pub fn read_new(bytes: &[u8]) -> (Reply, usize, State) {
     read_as(bytes, &[Version::Two])
 }
 
-fn read_as(bytes: &[u8], taken: &[Version]) -> (Reply, State) {
-    let mut states = taken.iter().filter_map(|&version| parse(bytes, version));
-    match states.next() {
-        Some(state) if lawful(&state) => (DONE, state),
-        _ => (NOT_A_RECORD, State::reset()),
+fn read_as(bytes: &[u8], taken: &[Version]) -> (Reply, usize, State) {
+    match judged(bytes, taken) {
+        Ok(version) => {
+            let state = parse(bytes, version);
+            // 3.31: every field keeps its bound.
+            assert!(lawful(&state));
+            (DONE, 0, state)
+        }
+        Err((reply, place)) => (reply, place, State::reset()),
     }
+}
+
+/// Rules 9.16 to 9.18 in this order: the version of a record that is taken, or a
+/// refusal and its place.
+fn judged(bytes: &[u8], taken: &[Version]) -> Result<Version, (Reply, usize)> {
+    let version = counted(bytes).ok_or((WRONG_COUNT, 0))?;
+    if bytes[2] != version.number() || !taken.contains(&version) {
+        return Err((WRONG_VERSION, 2));
+    }
+    match first_bad(bytes, version) {
+        Some(place) => Err((BAD_FIELD, place)),
+        None => Ok(version),
+    }
+}
+
+/// Rule 9.16: the version that has so many bytes, if they state how many they
+/// are.
+fn counted(bytes: &[u8]) -> Option<Version> {
+    let stated = u16::from_be_bytes(*bytes.first_chunk()?);
+    if usize::from(stated) != bytes.len() - 2 {
+        return None;
+    }
+    let mut versions = [Version::One, Version::Two].into_iter();
+    versions.find(|version| version.following() == stated)
 }
 
 /// Rules 7.7 and 10.12: the record of version 2 of the state in a record of
-/// version 1, or 3, 13 in this order.
-pub fn move_up(old: &[u8], target: &mut [u8]) -> Reply {
+/// version 1, or 3, 16, 17, 18 in this order, and the place that is told.
+pub fn move_up(old: &[u8], target: &mut [u8]) -> (Reply, usize) {
     if target.len() != RECORD_LENGTH {
-        return WRONG_BUFFER;
+        return (WRONG_BUFFER, 0);
     }
-    let (known, state) = read_old(old);
+    let (known, place, state) = read_old(old);
     if known != DONE {
-        return known;
+        return (known, place);
     }
     target.copy_from_slice(&record_bytes(&state, Version::Two));
-    DONE
+    (DONE, 0)
 }
 
 /// Rules 7.8 and 10.12: the record of version 1 of the state in a record of
-/// version 2, or 3, 13, 15 in this order.
-pub fn move_back(new: &[u8], target: &mut [u8]) -> Reply {
+/// version 2, or 3, 16, 17, 18, 15 in this order, and the place that is told.
+pub fn move_back(new: &[u8], target: &mut [u8]) -> (Reply, usize) {
     if target.len() != OLD_RECORD_LENGTH {
-        return WRONG_BUFFER;
+        return (WRONG_BUFFER, 0);
     }
-    let (known, state) = read_new(new);
+    let (known, place, state) = read_new(new);
     if known != DONE {
-        return known;
+        return (known, place);
     }
     if state.ula_x != state.lores_x || state.ula_y != state.lores_y {
-        return PAIRS_DIFFER;
+        return (PAIRS_DIFFER, 0);
     }
     target.copy_from_slice(&record_bytes(&state, Version::One));
-    DONE
+    (DONE, 0)
 }
 
 /// Rules 1.5 and 7.11: is what these bytes are read as written as the same
 /// bytes, those of an old record once it is moved back?
 pub fn writes_back(bytes: &[u8]) -> bool {
-    let (known, state) = read_record(bytes);
+    let (known, _, state) = read_record(bytes);
     let mut written = vec![0; RECORD_LENGTH];
     if known != DONE || write_record(&state, &mut written) != DONE {
         return false;
@@ -169,28 +204,25 @@ pub fn writes_back(bytes: &[u8]) -> bool {
         return written == bytes;
     }
     let mut back = vec![0; OLD_RECORD_LENGTH];
-    move_back(&written, &mut back) == DONE && back == bytes
+    move_back(&written, &mut back).0 == DONE && back == bytes
 }
 
-/// The state of well-formed bytes of a version, lawful or not.
-fn parse(bytes: &[u8], version: Version) -> Option<State> {
-    if bytes.len() != version.length() || bytes[..3] != version.start() {
-        return None;
-    }
+/// The state in a record of a version.
+fn parse(bytes: &[u8], version: Version) -> State {
     let mut state = State::reset();
     parse_registers(&bytes[3..21], &mut state);
     match version {
         // 7.5: as if the record were moved up.
         Version::One => {
             (state.ula_x, state.ula_y) = (state.lores_x, state.lores_y);
-            parse_rest(&bytes[21..], &mut state)?;
+            parse_rest(&bytes[21..], &mut state);
         }
         Version::Two => {
             (state.ula_x, state.ula_y) = (bytes[21], bytes[22]);
-            parse_rest(&bytes[23..], &mut state)?;
+            parse_rest(&bytes[23..], &mut state);
         }
     }
-    Some(state)
+    state
 }
 
 /// The eighteen registers, in the order of [`register_bytes`].
@@ -215,35 +247,21 @@ fn parse_registers(bytes: &[u8], state: &mut State) {
     state.lores_y = bytes[17];
 }
 
-/// From the clips on, where both versions have the same; none where a byte that
-/// says yes or no says neither.
-fn parse_rest(bytes: &[u8], state: &mut State) -> Option<()> {
+/// From the clips on, where both versions have the same.
+fn parse_rest(bytes: &[u8], state: &mut State) {
     state.ula_clip.copy_from_slice(&bytes[0..4]);
     state.tile_clip.copy_from_slice(&bytes[4..8]);
     state.ula_turn = bytes[8];
     state.tile_turn = bytes[9];
-    state.held = parse_flag(bytes[10])?;
+    state.held = says_yes(bytes[10]);
     state.half = bytes[11];
     state.border = bytes[12];
     state.timex = bytes[13];
     state.select = bytes[14];
-    state.plus_on = parse_flag(bytes[15])?;
+    state.plus_on = says_yes(bytes[15]);
     state.frame = bytes[16];
     state.plus.copy_from_slice(&bytes[17..81]);
-    for (palette, colours) in state.palettes.iter_mut().enumerate() {
-        for (index, colour) in colours.iter_mut().enumerate() {
-            let place = 81 + (palette * 256 + index) * 2;
-            *colour = u16::from_be_bytes([bytes[place], bytes[place + 1]]);
-        }
-    }
-    Some(())
-}
-
-/// Rule 7.2: a byte that says yes or no, 1 or 0.
-fn parse_flag(value: u8) -> Option<bool> {
-    match value {
-        0 => Some(false),
-        1 => Some(true),
-        _ => None,
+    for (index, colour) in state.palettes.iter_mut().flatten().enumerate() {
+        *colour = colour_at(bytes, 81 + 2 * index);
     }
 }

@@ -1,6 +1,6 @@
 //! The reply numbers of section 9: rule 9.N says when reply N comes.
 
-/// A reply is a plain number, 0 to 15.
+/// A reply is a plain number, 0 to 18 without 13, which is retired.
 pub type Reply = u8;
 
 /// Rule 9.0: nothing is refused.
@@ -29,9 +29,13 @@ pub const OUT_OF_BOUNDS: Reply = 10;
 pub const TOO_MANY_TILES: Reply = 11;
 /// Rule 9.12: a number allowed or a palette offset that is too large.
 pub const ALLOWED_OR_OFFSET: Reply = 12;
-/// Rule 9.13: bytes that are no record.
-pub const NOT_A_RECORD: Reply = 13;
 /// Rule 9.14: a file that is no screen, or a mode that no file holds.
 pub const NO_FORM: Reply = 14;
 /// Rule 9.15: a record of two scrolls, where version 1 has one.
 pub const PAIRS_DIFFER: Reply = 15;
+/// Rule 9.16: bytes that a record's stated number does not count.
+pub const WRONG_COUNT: Reply = 16;
+/// Rule 9.17: a version that is not taken, or not with so many bytes.
+pub const WRONG_VERSION: Reply = 17;
+/// Rule 9.18: a record of a state that breaks 3.31.
+pub const BAD_FIELD: Reply = 18;

@@ -146,14 +146,14 @@ fn screen_bytes(state: &State, form: Form, bank: &[u8]) -> Vec<u8> {
     bytes
 }
 
-/// Reading with a record lent for the state: 2, 13, 14 in this order, and the
-/// place of the colours in the file, 0 where there are none. The record is
-/// changed, so one of version 1 is 13 (7.10).
+/// Reading with a record lent for the state: 2, 16, 17, 18, 14 in this order, and
+/// the place of the colours in the file, 0 where there are none. The record is
+/// changed, so one of version 1 is 17 (7.10).
 pub fn lent_read_scr(record: &mut [u8], bank: &mut [u8], file: &[u8]) -> (Reply, u32) {
     if bank.len() != BANK_LENGTH {
         return (WRONG_BANK, 0);
     }
-    let (known, state) = read_new(record);
+    let (known, _, state) = read_new(record);
     if known != DONE {
         return (known, 0);
     }
@@ -170,8 +170,8 @@ pub fn lent_read_scr(record: &mut [u8], bank: &mut [u8], file: &[u8]) -> (Reply,
     (DONE, place as u32)
 }
 
-/// Writing with a record lent for the state, of either version: 2, 3, 13, 14 in
-/// this order, and the length.
+/// Writing with a record lent for the state, of either version: 2, 3, 16, 17,
+/// 18, 14 in this order, and the length.
 pub fn lent_write_scr(record: &[u8], bank: &[u8], target: &mut [u8]) -> (Reply, u32) {
     if bank.len() != BANK_LENGTH {
         return (WRONG_BANK, 0);
@@ -179,7 +179,7 @@ pub fn lent_write_scr(record: &[u8], bank: &[u8], target: &mut [u8]) -> (Reply, 
     if target.len() != SCREEN_LENGTH {
         return (WRONG_BUFFER, 0);
     }
-    let (known, state) = read_record(record);
+    let (known, _, state) = read_record(record);
     if known != DONE {
         return (known, 0);
     }

@@ -234,9 +234,34 @@ pub fn tile_x_high_in_bounds(value: u8) -> bool {
     value <= 3
 }
 
+/// Rules 3.24 and 3.31: the bound of $6E and of $6F as they are stored.
+pub fn base_in_bounds(value: u8) -> bool {
+    value < 64
+}
+
 /// Rule 3.27: the bound of port $BF3B.
 pub fn select_in_bounds(value: u8) -> bool {
     value < 128
+}
+
+/// Rule 3.31: the bound of the border.
+pub fn border_in_bounds(value: u8) -> bool {
+    value <= 7
+}
+
+/// Rule 3.31: the bound of a clip's turn.
+pub fn turn_in_bounds(value: u8) -> bool {
+    value <= 3
+}
+
+/// Rule 3.31: the bound of the held byte, by whether a half is held.
+pub fn half_in_bounds(held: bool, half: u8) -> bool {
+    held || half == 0
+}
+
+/// Rule 3.31: the bound of a colour.
+pub fn colour_in_bounds(colour: u16) -> bool {
+    colour <= 511
 }
 
 /// Rule 3.31 for what has its bound in 3.6 to 3.27 or in 3.32.
@@ -249,19 +274,20 @@ fn registers_lawful(state: &State) -> bool {
         && ula_control_in_bounds(state.ula_control)
         && tile_control_in_bounds(state.tile_control)
         && tile_x_high_in_bounds(state.tile_x_high)
-        && state.map_base < 64
-        && state.definition_base < 64
+        && base_in_bounds(state.map_base)
+        && base_in_bounds(state.definition_base)
         && select_in_bounds(state.select)
 }
 
 /// Rule 3.31: is the state lawful?
 pub fn lawful(state: &State) -> bool {
+    let mut colours = state.palettes.iter().flatten();
     registers_lawful(state)
-        && state.border <= 7
-        && state.palettes.iter().flatten().all(|&colour| colour <= 511)
-        && state.ula_turn <= 3
-        && state.tile_turn <= 3
-        && (state.held || state.half == 0)
+        && border_in_bounds(state.border)
+        && colours.all(|&colour| colour_in_bounds(colour))
+        && turn_in_bounds(state.ula_turn)
+        && turn_in_bounds(state.tile_turn)
+        && half_in_bounds(state.held, state.half)
 }
 
 /// Rules 3.30 and 10.4: the next frame, or 4.

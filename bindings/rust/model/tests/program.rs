@@ -79,9 +79,11 @@ fn a_record() {
     assert_eq!(run(&["record"], &[&good]), ("0 same\n".to_string(), true));
     let old = file("old_record", &old_record_of(&State::reset()));
     assert_eq!(run(&["record"], &[&old]), ("0 same\n".to_string(), true));
-    bytes[2] = 1;
-    let bad = file("bad_record", &bytes);
-    assert_eq!(run(&["record"], &[&bad]), ("13\n".to_string(), true));
+    for (place, byte, told) in [(35, 8, "18 35\n"), (2, 1, "17 2\n"), (1, 99, "16 0\n")] {
+        bytes[place] = byte;
+        let bad = file("bad_record", &bytes);
+        assert_eq!(run(&["record"], &[&bad]), (told.to_string(), true));
+    }
 }
 
 #[test]

@@ -402,7 +402,8 @@ fn the_addresses() {
     assert_eq!(Form::Two.addresses()[6_143..6_145], [0x17FF, 0x2000]);
 }
 
-/// A record lent for the state: 13 in the place of 4, and the colours' place.
+/// A record lent for the state: 16, 17 and 18 in the place of 4, and the colours'
+/// place.
 #[test]
 fn reading_on_a_record() {
     for (length, form, coloured) in LENGTHS {
@@ -415,7 +416,7 @@ fn reading_on_a_record() {
             "{length}"
         );
         let (_, expected, _) = read_scr(&busy(), &mut blank(), &file);
-        assert_eq!(read_record(&record), (0, expected));
+        assert_eq!(read_record(&record), (0, 0, expected));
         assert!(bank == bank_after(form, &file));
     }
     let mut unlawful = record_of(&busy());
@@ -423,12 +424,14 @@ fn reading_on_a_record() {
     for (given, length, file_length, reply) in [
         (&record_of(&busy()), 16_384, 6_911, 14),
         (&record_of(&busy()), 16_383, 6_911, 2),
-        (&unlawful, 16_384, 6_911, 13),
-        (&unlawful, 16_384, 6_912, 13),
+        (&unlawful, 16_384, 6_911, 18),
+        (&unlawful, 16_384, 6_912, 18),
         (&unlawful, 16_385, 6_911, 2),
-        (&vec![], 16_384, 6_912, 13),
+        (&vec![], 16_384, 6_912, 16),
+        (&vec![], 16_383, 6_912, 2),
         // 7.10: an old record cannot be changed.
-        (&old_record_of(&busy()), 16_384, 6_912, 13),
+        (&old_record_of(&busy()), 16_384, 6_911, 17),
+        (&old_record_of(&busy()), 16_384, 6_912, 17),
         (&old_record_of(&busy()), 16_383, 6_912, 2),
     ] {
         let (mut kept, mut bank) = (given.clone(), vec![0xFF; length]);
@@ -457,11 +460,16 @@ fn writing_on_a_record() {
     }
     let mut unlawful = record_of(&busy());
     unlawful[35] = 8;
+    let mut misnamed = unlawful.clone();
+    misnamed[2] = 1;
     for (given, bank, length, reply) in [
         (&unlawful, &bank[1..], 5, 2),
         (&unlawful, &bank, 5, 3),
-        (&unlawful, &bank, 12_353, 13),
-        (&vec![], &bank, 12_353, 13),
+        (&unlawful, &bank, 12_353, 18),
+        (&vec![], &bank, 5, 3),
+        (&vec![], &bank, 12_353, 16),
+        (&misnamed, &bank, 5, 3),
+        (&misnamed, &bank, 12_353, 17),
         (&record_of(&busy()), &bank, 12_353, 14),
     ] {
         let mut target = vec![0xFF; length];

@@ -235,7 +235,7 @@ fn an_old_record_draws_as_it_did() {
         (state.lores_x, state.lores_y) = (13, 65);
         // An old record has no place for these.
         (state.ula_x, state.ula_y) = (200, 100);
-        let (reply, state) = read_record(&old_record_of(&state));
+        let (reply, _, state) = read_record(&old_record_of(&state));
         assert_eq!(reply, 0);
         ula_dots(32, &bank(bytes), &state)[64..68].to_vec()
     };

@@ -1,6 +1,7 @@
 //! A bot's states, kept by member number. Two members share a nickname; one has sent half a nine-bit colour, the other
-//! sends a byte of her own, and neither reaches the other. A third has an old record, which is moved up when it is loaded.
-use narephon::Reply;
+//! sends a byte of her own, and neither reaches the other. A third has an old record, which is moved up when it is loaded,
+//! and a fourth a damaged one, of which the bot says what is wrong and where.
+use narephon::{Refusal, Reply};
 use std::collections::HashMap;
 
 struct Bot {
@@ -9,7 +10,7 @@ struct Bot {
 
 impl Bot {
     /// Takes over a stored record of either version.
-    fn load(&mut self, member: u16, stored: &[u8]) -> Result<(), Reply> {
+    fn load(&mut self, member: u16, stored: &[u8]) -> Result<(), Refusal> {
         let record = narephon::load_record(stored)?;
         self.records.insert(member, record);
         Ok(())
@@ -21,7 +22,8 @@ impl Bot {
     }
 
     fn read(&self, member: u16, register: u8) -> Result<u8, Reply> {
-        let record = self.records.get(&member).ok_or(Reply::NotRecord)?;
+        // Of a member without a record there is not even the number.
+        let record = self.records.get(&member).ok_or(Reply::WrongCount)?;
         narephon::read_register(record, register)
     }
 }
@@ -32,7 +34,7 @@ fn old_record() -> Result<[u8; narephon::OLD_RECORD], Reply> {
     for (register, value) in [(0x26, 16), (0x27, 40), (0x32, 16), (0x33, 40)] {
         narephon::write_register(&mut record, register, value)?;
     }
-    narephon::move_back(&record)
+    Ok(narephon::move_back(&record)?)
 }
 
 /// Members 7 and 8 are both called Rufus.
@@ -71,5 +73,11 @@ fn main() -> Result<(), Reply> {
         bot.read(9, 0x26)?,
         bot.read(9, 0x27)?
     );
+    let mut damaged = old_record()?;
+    // The border of an old record, at most 7.
+    damaged[33] = 8;
+    if let Err(refusal) = bot.load(10, &damaged) {
+        println!("member 10 has a damaged record: {refusal}");
+    }
     Ok(())
 }

@@ -8,7 +8,10 @@
 //! Records are made in version 2. One of version 1, which versions before 0.3.0 made, is an old record of [`OLD_RECORD`]
 //! bytes: it lacks registers `0x26` and `0x27`, which scroll the ULA, and its `0x32` and `0x33` stand for them. A call that
 //! only reads a record (`&[u8]`), but for the two moves, takes both versions. One that changes it (`&mut [u8]`) takes
-//! version 2 alone, and an old record is [`Reply::NotRecord`] there: [`load_record`] makes it new.
+//! version 2 alone, and an old record is [`Reply::WrongVersion`] there: [`load_record`] makes it new.
+//!
+//! Bytes that are no record are refused by 16, 17 or 18, in this order. [`check_record`], the moves and [`load_record`] tell
+//! the place too, in a [`Refusal`].
 //!
 //! ```
 //! let mut record = narephon::reset();
@@ -28,8 +31,8 @@
 pub mod raw;
 mod reply;
 
-use reply::answered;
-pub use reply::Reply;
+use reply::{answered, judged};
+pub use reply::{Refusal, Reply};
 
 /// The version of this wrapper and of the library that it is delivered with.
 pub const VERSION: &str = env!("CARGO_PKG_VERSION");
@@ -61,40 +64,50 @@ pub fn reset() -> [u8; RECORD] {
     record
 }
 
-/// Are these bytes a record of a lawful state, of either version? It changes nothing; the other calls judge their record
-/// by themselves.
+/// Are these bytes a record of a lawful state, of either version, and if not, what is wrong with them, and where? It changes
+/// nothing; the other calls judge their record by themselves.
 ///
-/// Refused by [`Reply::NotRecord`] for every fault, a wrong length included.
-pub fn check_record(record: &[u8]) -> Result<(), Reply> {
-    // SAFETY: as in `reset`.
-    let reply = unsafe { raw::narephon_check_record(record.as_ptr(), record.len()) };
-    answered(reply, ())
+/// Refused by 16, 17 or 18, with the place.
+///
+/// ```
+/// let mut record = narephon::reset();
+/// // The border, which is at most 7.
+/// record[35] = 8;
+/// let refusal = narephon::check_record(&record).unwrap_err();
+/// assert_eq!((refusal.reply, refusal.place), (narephon::Reply::BadField, Some(35)));
+/// ```
+pub fn check_record(record: &[u8]) -> Result<(), Refusal> {
+    let mut place = 0;
+    // SAFETY: as in `reset`; `place` is no part of the record.
+    let reply = unsafe { raw::narephon_check_record(record.as_ptr(), record.len(), &mut place) };
+    judged(reply, place, ())
 }
 
 /// An old record moved up: the record of version 2 of its state, `0x26` and `0x27` being its `0x32` and `0x33`, so that
 /// every line is drawn as before.
 ///
-/// Refused by 13, for a record of version 2 too.
-pub fn move_up(record: &[u8]) -> Result<[u8; RECORD], Reply> {
-    let mut target = [0; RECORD];
-    // SAFETY: each pointer and length are those of one live buffer, and the target is borrowed alone.
+/// Refused by 16, 17 or 18, with the place; a record of version 2 by 17.
+pub fn move_up(record: &[u8]) -> Result<[u8; RECORD], Refusal> {
+    let (mut target, mut place) = ([0; RECORD], 0);
+    // SAFETY: each pointer and length are those of one live buffer, and target and place are borrowed alone.
     let reply = unsafe {
         raw::narephon_move_up(
             record.as_ptr(),
             record.len(),
             target.as_mut_ptr(),
             target.len(),
+            &mut place,
         )
     };
-    answered(reply, target)
+    judged(reply, place, target)
 }
 
 /// A record of version 2 moved back: the old record of its state, which versions before 0.3.0 take. It has one while `0x26`
 /// is `0x32` and `0x27` is `0x33`.
 ///
-/// Refused by 13, for an old record too, or by 15.
-pub fn move_back(record: &[u8]) -> Result<[u8; OLD_RECORD], Reply> {
-    let mut target = [0; OLD_RECORD];
+/// Refused by 16, 17 or 18, with the place, an old record by 17; or by 15, without one.
+pub fn move_back(record: &[u8]) -> Result<[u8; OLD_RECORD], Refusal> {
+    let (mut target, mut place) = ([0; OLD_RECORD], 0);
     // SAFETY: as in `move_up`.
     let reply = unsafe {
         raw::narephon_move_back(
@@ -102,14 +115,15 @@ pub fn move_back(record: &[u8]) -> Result<[u8; OLD_RECORD], Reply> {
             record.len(),
             target.as_mut_ptr(),
             target.len(),
+            &mut place,
         )
     };
-    answered(reply, target)
+    judged(reply, place, target)
 }
 
 /// A stored record, of either version, as one that every call takes: an old one moved up, one of version 2 as it is.
 ///
-/// Refused by 13.
+/// Refused as by [`check_record`].
 ///
 /// ```
 /// # let stored = narephon::move_back(&narephon::reset())?;
@@ -119,14 +133,14 @@ pub fn move_back(record: &[u8]) -> Result<[u8; OLD_RECORD], Reply> {
 /// assert_eq!(narephon::load_record(&record)?, record);
 /// # Ok::<(), narephon::Reply>(())
 /// ```
-pub fn load_record(record: &[u8]) -> Result<[u8; RECORD], Reply> {
+pub fn load_record(record: &[u8]) -> Result<[u8; RECORD], Refusal> {
     check_record(record)?;
     record.try_into().or_else(|_| move_up(record))
 }
 
 /// Moves the state in a record one frame on, from 255 to 0.
 ///
-/// Refused by 13, it leaves the record as it was.
+/// Refused by 16, 17 or 18, it leaves the record as it was.
 pub fn next_frame(record: &mut [u8]) -> Result<(), Reply> {
     // SAFETY: as in `reset`.
     let reply = unsafe { raw::narephon_next_frame(record.as_mut_ptr(), record.len()) };
@@ -135,7 +149,7 @@ pub fn next_frame(record: &mut [u8]) -> Result<(), Reply> {
 
 /// Writes a value to a register of the state in a record.
 ///
-/// Refused by 13, 9 or 10, it leaves the record as it was, a half-sent colour still held.
+/// Refused by 16, 17, 18, 9 or 10, it leaves the record as it was, a half-sent colour still held.
 pub fn write_register(record: &mut [u8], number: u8, value: u8) -> Result<(), Reply> {
     // SAFETY: as in `reset`.
     let reply =
@@ -145,7 +159,7 @@ pub fn write_register(record: &mut [u8], number: u8, value: u8) -> Result<(), Re
 
 /// Writes a value to a port of the state in a record: `0x00FE`, `0x00FF`, `0xBF3B` or `0xFF3B`.
 ///
-/// Refused by 13, 9 or 10, it leaves the record as it was.
+/// Refused by 16, 17, 18, 9 or 10, it leaves the record as it was.
 pub fn write_port(record: &mut [u8], port: u16, value: u8) -> Result<(), Reply> {
     // SAFETY: as in `reset`.
     let reply = unsafe { raw::narephon_write_port(record.as_mut_ptr(), record.len(), port, value) };
@@ -154,7 +168,7 @@ pub fn write_port(record: &mut [u8], port: u16, value: u8) -> Result<(), Reply> 
 
 /// What a register of the state in a record reads as. A read moves nothing.
 ///
-/// Refused by 13 or 9.
+/// Refused by 16, 17, 18 or 9.
 pub fn read_register(record: &[u8], number: u8) -> Result<u8, Reply> {
     let mut value = 0;
     // SAFETY: as in `reset`; `value` is no part of the record.
@@ -165,7 +179,7 @@ pub fn read_register(record: &[u8], number: u8) -> Result<u8, Reply> {
 
 /// What a port of the state in a record reads as: `0xFF3B`, and `0x00FF` while register `0x08` bit 2 is set.
 ///
-/// Refused by 13 or 9.
+/// Refused by 16, 17, 18 or 9.
 pub fn read_port(record: &[u8], port: u16) -> Result<u8, Reply> {
     let mut value = 0;
     // SAFETY: as in `read_register`.
@@ -176,7 +190,7 @@ pub fn read_port(record: &[u8], port: u16) -> Result<u8, Reply> {
 /// Draws a line, 0 to 255, of the state in a record, as [`DOTS`] nine-bit colours in `dots`. The banks have [`BANK`] bytes
 /// each and may be the same.
 ///
-/// Refused by 1, 2, 3, 13, 6, 7, 5 or 8, it leaves `dots` as it was.
+/// Refused by 1, 2, 3, 16, 17, 18, 6, 7, 5 or 8, it leaves `dots` as it was.
 pub fn draw(
     record: &[u8],
     ula: &[u8],
@@ -210,7 +224,7 @@ pub fn draw(
 /// and port `0x00FF` becomes 0, 2 or the file's byte. With colours ULAplus goes on and has them as its registers, without it
 /// goes off. Nothing else changes.
 ///
-/// Refused by 2, 13 or 14, it leaves record and bank as they were.
+/// Refused by 2, 16, 17, 18 or 14, it leaves record and bank as they were.
 ///
 /// ```
 /// let (mut record, mut bank) = (narephon::reset(), [0; narephon::BANK]);
@@ -248,7 +262,7 @@ pub fn read_scr<'a>(record: &mut [u8], bank: &mut [u8], file: &'a [u8]) -> Resul
 /// has [`SCREEN`] bytes, and gives that part of it. What is past it stays. The form is that of modes 0, 2 and 6 with LoRes
 /// off; the ULAplus registers are its colours where ULAplus is on.
 ///
-/// Refused by 2, 3, 13 or 14, it leaves `file` as it was.
+/// Refused by 2, 3, 16, 17, 18 or 14, it leaves `file` as it was.
 pub fn write_scr<'a>(record: &[u8], bank: &[u8], file: &'a mut [u8]) -> Result<&'a [u8], Reply> {
     let mut length = 0;
     // SAFETY: as in `read_scr`.

@@ -3,18 +3,20 @@
 #[link(name = "narephon", kind = "static")]
 extern "C" {
     pub fn narephon_reset(record: *mut u8, record_len: usize) -> u8;
-    pub fn narephon_check_record(record: *const u8, record_len: usize) -> u8;
+    pub fn narephon_check_record(record: *const u8, record_len: usize, place: *mut u32) -> u8;
     pub fn narephon_move_up(
         record: *const u8,
         record_len: usize,
         target: *mut u8,
         target_len: usize,
+        place: *mut u32,
     ) -> u8;
     pub fn narephon_move_back(
         record: *const u8,
         record_len: usize,
         target: *mut u8,
         target_len: usize,
+        place: *mut u32,
     ) -> u8;
     pub fn narephon_next_frame(record: *mut u8, record_len: usize) -> u8;
     pub fn narephon_write_register(record: *mut u8, record_len: usize, number: u8, value: u8)

@@ -1,4 +1,4 @@
-//! The refusals by number.
+//! The refusals by number, and where in a record.
 
 use std::fmt;
 
@@ -15,7 +15,7 @@ pub enum Reply {
     BankLength,
     /// 3: another buffer has the wrong length.
     BufferLength,
-    /// 4: the state is not lawful. A record of such a state is [`Reply::NotRecord`], so no call here gives this.
+    /// 4: the state is not lawful. A record of such a state is [`Reply::BadField`], so no call here gives this.
     NotLawful,
     /// 5: the ULA is on, LoRes is off, and port $FF gives no mode.
     NoMode,
@@ -33,18 +33,22 @@ pub enum Reply {
     TooManyTiles,
     /// 12: the number allowed is above 256, or the palette offset above 15.
     PackingBounds,
-    /// 13: the bytes are not a record of a lawful state.
-    NotRecord,
     /// 14: the file is not a screen, or the screen has no form as a file.
     NoForm,
     /// 15: the record cannot be moved back: $26 is not $32, or $27 is not $33.
     PairsDiffer,
-    /// Any other number: the library is newer than this wrapper.
+    /// 16: the record's stated number is missing, is not the number of bytes following, or is neither 2,148 nor 2,150.
+    WrongCount,
+    /// 17: the record's version is not read here, or is not the one of its length.
+    WrongVersion,
+    /// 18: a field of the record is out of its bounds.
+    BadField,
+    /// Any other number: the library is of another version than this wrapper.
     Unknown(u8),
 }
 
 /// The replies with a number of their own.
-const KNOWN: [Reply; 15] = [
+const KNOWN: [Reply; 17] = [
     Reply::NoLine,
     Reply::BankLength,
     Reply::BufferLength,
@@ -57,9 +61,11 @@ const KNOWN: [Reply; 15] = [
     Reply::OutOfBounds,
     Reply::TooManyTiles,
     Reply::PackingBounds,
-    Reply::NotRecord,
     Reply::NoForm,
     Reply::PairsDiffer,
+    Reply::WrongCount,
+    Reply::WrongVersion,
+    Reply::BadField,
 ];
 
 impl Reply {
@@ -78,9 +84,11 @@ impl Reply {
             Reply::OutOfBounds => 10,
             Reply::TooManyTiles => 11,
             Reply::PackingBounds => 12,
-            Reply::NotRecord => 13,
             Reply::NoForm => 14,
             Reply::PairsDiffer => 15,
+            Reply::WrongCount => 16,
+            Reply::WrongVersion => 17,
+            Reply::BadField => 18,
             Reply::Unknown(number) => number,
         }
     }
@@ -102,15 +110,29 @@ impl Reply {
             Reply::PackingBounds => {
                 "the number allowed is above 256, or the palette offset above 15"
             }
-            Reply::NotRecord => "the bytes are not a record of a lawful state",
             Reply::NoForm => "the file is not a screen, or the screen has no form as a file",
             Reply::PairsDiffer => {
                 "the record cannot be moved back: $26 is not $32, or $27 is not $33"
             }
+            Reply::WrongCount => {
+                "the record's stated number is missing, is not the number of bytes following, or is neither 2,148 nor 2,150"
+            }
+            Reply::WrongVersion => {
+                "the record's version is not read here, or is not the one of its length"
+            }
+            Reply::BadField => "a field of the record is out of its bounds",
             Reply::Unknown(_) => {
-                "a reply that this wrapper does not know: the library is newer than it"
+                "a reply that this wrapper does not know: the library is of another version"
             }
         }
+    }
+
+    /// Does the reply say where in a record it is?
+    fn tells_place(self) -> bool {
+        matches!(
+            self,
+            Reply::WrongCount | Reply::WrongVersion | Reply::BadField
+        )
     }
 
     /// The reply of a number that is not 0.
@@ -128,6 +150,39 @@ impl fmt::Display for Reply {
 
 impl std::error::Error for Reply {}
 
+/// Why a record was refused, and where in it.
+///
+/// A caller that asks for no place has the [`Reply`] alone by `?` or `into`. Its `Display` has the place at its end, where
+/// there is one: `refused 18: a field of the record is out of its bounds (place 35)`.
+#[derive(Clone, Copy, Debug, PartialEq, Eq, Hash)]
+#[non_exhaustive]
+pub struct Refusal {
+    /// Why.
+    pub reply: Reply,
+    /// Where, counted from the record's first byte, which is at 0: the stated number's place, 0, by
+    /// [`Reply::WrongCount`]; the version's, 2, by [`Reply::WrongVersion`]; that of the first field out of its bounds by
+    /// [`Reply::BadField`], of a colour the place of its high byte. By every other reply nothing is told.
+    pub place: Option<usize>,
+}
+
+impl fmt::Display for Refusal {
+    fn fmt(&self, f: &mut fmt::Formatter<'_>) -> fmt::Result {
+        self.reply.fmt(f)?;
+        match self.place {
+            Some(place) => write!(f, " (place {place})"),
+            None => Ok(()),
+        }
+    }
+}
+
+impl std::error::Error for Refusal {}
+
+impl From<Refusal> for Reply {
+    fn from(refusal: Refusal) -> Reply {
+        refusal.reply
+    }
+}
+
 /// The value of a call that is done, or what its number says.
 pub(crate) fn answered<T>(number: u8, value: T) -> Result<T, Reply> {
     match number {
@@ -136,19 +191,42 @@ pub(crate) fn answered<T>(number: u8, value: T) -> Result<T, Reply> {
     }
 }
 
+/// The same of a call that sets a place, which is 0 also where it tells none.
+pub(crate) fn judged<T>(number: u8, place: u32, value: T) -> Result<T, Refusal> {
+    answered(number, value).map_err(|reply| Refusal {
+        reply,
+        place: reply.tells_place().then_some(place as usize),
+    })
+}
+
 #[cfg(test)]
 mod tests {
     use super::*;
 
-    /// Every number is answered, and keeps its number.
+    /// Every number is answered, and keeps its number. 13 is retired.
     #[test]
     fn every_number() {
         assert_eq!(answered(0, 5), Ok(5));
         for number in 1..=255 {
             let reply = answered(number, 5).expect_err("a refusal");
             assert_eq!(reply.number(), number);
-            let known = usize::from(number) <= KNOWN.len();
+            let known = number <= 18 && number != 13;
             assert_eq!(reply != Reply::Unknown(number), known);
+        }
+    }
+
+    /// A place of 0 is told by 16, and by a reply that tells none it is none.
+    #[test]
+    fn places() {
+        assert_eq!(judged(0, 0, 5), Ok(5));
+        for number in 1..=255 {
+            for place in [0, 2, 2_150] {
+                let refusal = judged(number, place, 5).expect_err("a refusal");
+                assert_eq!(Err(refusal.reply), answered(number, 5));
+                assert_eq!(Reply::from(refusal), refusal.reply);
+                let told = (16..=18).contains(&number).then_some(place as usize);
+                assert_eq!(refusal.place, told);
+            }
         }
     }
 
@@ -157,8 +235,13 @@ mod tests {
         let bounds = "refused 10: the value is out of its bounds";
         assert_eq!(Reply::OutOfBounds.to_string(), bounds);
         let unknown =
-            "refused 255: a reply that this wrapper does not know: the library is newer than it";
+            "refused 255: a reply that this wrapper does not know: the library is of another version";
         assert_eq!(Reply::of(255).to_string(), unknown);
+        let printed =
+            |number, place| judged(number, place, ()).map_err(|refusal| refusal.to_string());
+        let field = "refused 18: a field of the record is out of its bounds (place 35)";
+        assert_eq!(printed(18, 35), Err(field.to_string()));
+        assert_eq!(printed(15, 0), Err(Reply::PairsDiffer.to_string()));
     }
 
     /// The C header has the same sentence beside each number, and no number more.
@@ -172,9 +255,9 @@ mod tests {
             line.split("/* ").nth(1)?.strip_suffix(" */")
         };
         assert_eq!(said(0), Some("done"));
-        for reply in KNOWN {
-            assert_eq!(said(reply.number()), Some(reply.sentence()));
+        for number in 1..=255 {
+            let known = KNOWN.into_iter().find(|reply| reply.number() == number);
+            assert_eq!(said(number), known.map(Reply::sentence));
         }
-        assert_eq!(said(KNOWN.len() as u8 + 1), None);
     }
 }

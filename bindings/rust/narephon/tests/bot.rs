@@ -16,6 +16,7 @@ fn the_bot_keeps_members_apart() {
         "member 7: colour 454",
         "member 8: colour 57",
         "member 9 scrolls by 24 and 40",
+        "member 10 has a damaged record: refused 18: a field of the record is out of its bounds (place 33)",
     ];
     assert_eq!(said.lines().collect::<Vec<_>>(), wanted);
 }

@@ -1,6 +1,6 @@
 //! Each wrapper once, with a refusal of each that can be refused.
 
-use narephon::Reply;
+use narephon::{Refusal, Reply};
 use std::collections::HashMap;
 
 #[test]
@@ -24,22 +24,82 @@ fn registers_and_ports() {
     assert_eq!(far, Err(Reply::OutOfBounds));
     assert_eq!(
         narephon::next_frame(&mut record[1..]),
-        Err(Reply::NotRecord)
+        Err(Reply::WrongCount)
     );
     assert!(record == kept);
 }
 
+/// What a refused record is told, and where.
+fn told<T: std::fmt::Debug>(answer: Result<T, Refusal>) -> (Reply, Option<usize>) {
+    let refusal = answer.expect_err("a refusal");
+    (refusal.reply, refusal.place)
+}
+
+const COUNT: (Reply, Option<usize>) = (Reply::WrongCount, Some(0));
+const VERSION: (Reply, Option<usize>) = (Reply::WrongVersion, Some(2));
+
+fn field(place: usize) -> (Reply, Option<usize>) {
+    (Reply::BadField, Some(place))
+}
+
+/// A record with one byte replaced.
+fn replaced(record: &[u8], place: usize, byte: u8) -> Vec<u8> {
+    let mut bytes = record.to_vec();
+    bytes[place] = byte;
+    bytes
+}
+
 #[test]
 fn records_checked() {
-    let mut record = narephon::reset();
-    let kept = record;
+    let record = narephon::reset();
     assert_eq!(narephon::check_record(&record), Ok(()));
-    assert_eq!(narephon::check_record(&record[1..]), Err(Reply::NotRecord));
-    assert_eq!(narephon::check_record(&[]), Err(Reply::NotRecord));
-    assert!(record == kept);
-    // The version.
-    record[2] = 3;
-    assert_eq!(narephon::check_record(&record), Err(Reply::NotRecord));
+    for none in [&record[1..], &record[..1], &[0, 0], &[]] {
+        assert_eq!(told(narephon::check_record(none)), COUNT);
+    }
+    // A number one off, an unknown version and that of the other length.
+    let checked = |place, byte| told(narephon::check_record(&replaced(&record, place, byte)));
+    assert_eq!(checked(1, 101), COUNT);
+    assert_eq!(checked(2, 3), VERSION);
+    assert_eq!(checked(2, 1), VERSION);
+    // $43, $42, $27, the flag, the byte that none holds, the border, ULAplus, the first and the last colour.
+    for (place, byte) in [
+        (6, 0x10),
+        (8, 5),
+        (22, 192),
+        (33, 2),
+        (34, 1),
+        (35, 8),
+        (38, 2),
+        (104, 2),
+        (2_150, 2),
+    ] {
+        assert_eq!(checked(place, byte), field(place));
+    }
+    // In an old record what follows $33 stands two places before.
+    let old = old_of(&record);
+    for (place, byte) in [(20, 192), (31, 2), (32, 1), (33, 8), (102, 2), (2_148, 2)] {
+        let bytes = replaced(&old, place, byte);
+        assert_eq!(told(narephon::check_record(&bytes)), field(place));
+        assert_eq!(told(narephon::move_up(&bytes)), field(place));
+    }
+}
+
+/// The first of several faults is told.
+#[test]
+fn the_first_fault() {
+    let mut record = narephon::reset();
+    for (place, byte, first) in [
+        (2_150, 2, field(2_150)),
+        (35, 8, field(35)),
+        (34, 1, field(34)),
+        (6, 0x10, field(6)),
+        (2, 1, VERSION),
+        (0, 0, COUNT),
+    ] {
+        record[place] = byte;
+        assert_eq!(told(narephon::check_record(&record)), first);
+        assert_eq!(told(narephon::load_record(&record)), first);
+    }
 }
 
 /// A record after writes to registers.
@@ -70,12 +130,16 @@ fn moves() {
     assert!(narephon::move_back(&record).is_ok_and(|back| back[..] == old));
     assert_eq!(narephon::move_up(&old), Ok(record));
     // What is already there, and what is no record.
-    assert_eq!(narephon::move_up(&record), Err(Reply::NotRecord));
-    assert_eq!(narephon::move_back(&old), Err(Reply::NotRecord));
-    assert_eq!(narephon::move_up(&old[1..]), Err(Reply::NotRecord));
+    assert_eq!(told(narephon::move_up(&record)), VERSION);
+    assert_eq!(told(narephon::move_back(&old)), VERSION);
+    assert_eq!(told(narephon::move_up(&old[1..])), COUNT);
+    assert_eq!(told(narephon::move_back(&record[1..])), COUNT);
     for writes in [[(0x26, 1)], [(0x27, 1)], [(0x32, 1)], [(0x33, 1)]] {
-        let back = narephon::move_back(&written(&writes));
-        assert_eq!(back, Err(Reply::PairsDiffer));
+        let apart = written(&writes);
+        let back = told(narephon::move_back(&apart));
+        assert_eq!(back, (Reply::PairsDiffer, None));
+        let bad = replaced(&apart, 2_150, 2);
+        assert_eq!(told(narephon::move_back(&bad)), field(2_150));
     }
 }
 
@@ -86,8 +150,18 @@ fn stored_records() {
     assert_eq!(narephon::load_record(&old), Ok(record));
     assert_eq!(narephon::load_record(&own), Ok(own));
     for none in [&old[1..], &record[1..], &record[2..], &[]] {
-        assert_eq!(narephon::load_record(none), Err(Reply::NotRecord));
+        assert_eq!(told(narephon::load_record(none)), COUNT);
     }
+}
+
+/// A caller that asks for no place.
+fn loaded(record: &[u8]) -> Result<[u8; narephon::RECORD], Reply> {
+    Ok(narephon::load_record(record)?)
+}
+
+#[test]
+fn a_refusal_becomes_its_reply() {
+    assert_eq!(loaded(&[]), Err(Reply::WrongCount));
 }
 
 /// What only reads a record takes an old one; what changes it does not.
@@ -103,12 +177,12 @@ fn old_records() {
     let mut file = [0; narephon::SCREEN];
     let screen = narephon::write_scr(&old, &bank, &mut file);
     assert!(screen.is_ok_and(|file| file.len() == 6_912));
-    let none = Err(Reply::NotRecord);
-    assert_eq!(narephon::next_frame(&mut old), none);
-    assert_eq!(narephon::write_register(&mut old, 0x14, 7), none);
-    assert_eq!(narephon::write_port(&mut old, 0xFE, 2), none);
+    let unread = Err(Reply::WrongVersion);
+    assert_eq!(narephon::next_frame(&mut old), unread);
+    assert_eq!(narephon::write_register(&mut old, 0x14, 7), unread);
+    assert_eq!(narephon::write_port(&mut old, 0xFE, 2), unread);
     let read = narephon::read_scr(&mut old, &mut bank, &[1; 6_912]);
-    assert_eq!(read, Err(Reply::NotRecord));
+    assert_eq!(read, Err(Reply::WrongVersion));
     assert!(old == kept && bank == [0; narephon::BANK]);
 }
 
@@ -248,7 +322,7 @@ fn refused_screen_files() {
     let empty = narephon::read_scr(&mut record, &mut bank, &[]);
     assert_eq!(empty, Err(Reply::NoForm));
     let short = narephon::read_scr(&mut record[1..], &mut bank, &[]);
-    assert_eq!(short, Err(Reply::NotRecord));
+    assert_eq!(short, Err(Reply::WrongCount));
     let bank_length = narephon::read_scr(&mut record[1..], &mut bank[1..], &[]);
     assert_eq!(bank_length, Err(Reply::BankLength));
     assert!(record == kept && bank == [0xFF; narephon::BANK]);
@@ -256,7 +330,7 @@ fn refused_screen_files() {
     assert_eq!(narephon::write_register(&mut record, 0x15, 0x80), Ok(()));
     for (record, bank, first, reply) in [
         (&record[..], &bank[..], 0, Reply::NoForm),
-        (&record[1..], &bank[..], 0, Reply::NotRecord),
+        (&record[1..], &bank[..], 0, Reply::WrongCount),
         (&record[1..], &bank[..], 1, Reply::BufferLength),
         (&record[1..], &bank[1..], 1, Reply::BankLength),
     ] {

@@ -102,7 +102,7 @@ impl Picture {
     }
 
     fn fast_once(&mut self, record: &[u8], banks: &[Vec<u8>; 2]) {
-        let (_, state) = fast::read_record(black_box(record));
+        let (_, _, state) = fast::read_record(black_box(record));
         for (line, dots) in (0..LINES).zip(self.0.chunks_exact_mut(narephon::DOTS)) {
             let reply = fast::draw(line, &banks[0], &banks[1], black_box(&state), dots);
             assert_eq!(reply, 0);
@@ -112,7 +112,7 @@ impl Picture {
 
     fn fast_each(&mut self, record: &[u8], banks: &[Vec<u8>; 2]) {
         for (line, dots) in (0..LINES).zip(self.0.chunks_exact_mut(narephon::DOTS)) {
-            let (_, state) = fast::read_record(black_box(record));
+            let (_, _, state) = fast::read_record(black_box(record));
             let reply = fast::draw(line, &banks[0], &banks[1], &state, dots);
             assert_eq!(reply, 0);
         }
@@ -143,7 +143,7 @@ fn preview(what: &str, record: &[u8], banks: &[Vec<u8>; 2]) -> [Row; 2] {
 
 /// Fast doing what an exported write does: a record read, changed and written.
 fn fast_change(record: &mut [u8], change: impl FnOnce(&mut fast::State) -> u8) {
-    let (read, mut state) = fast::read_record(black_box(record));
+    let (read, _, mut state) = fast::read_record(black_box(record));
     let changed = change(&mut state);
     let written = fast::write_record(&state, record);
     assert_eq!((read, changed, written), (0, 0, 0));
@@ -155,6 +155,7 @@ fn records(random: &mut Random) {
         write_row(random, "write of $41, fast on a state that it keeps", true),
         write_row(random, "write of $41, fast on a record", false),
         frame_row(random),
+        bad_colour_row(random),
     ];
     print_table("A register write, a record read and written", &rows);
 }
@@ -163,7 +164,7 @@ fn records(random: &mut Random) {
 fn write_row(random: &mut Random, what: &str, keeps: bool) -> Row {
     let mut record = record_of(&base(random));
     let mut other = record.clone();
-    let (_, mut state) = fast::read_record(&record);
+    let (_, _, mut state) = fast::read_record(&record);
     let (mut value, mut other_value) = (0u8, 0u8);
     let mut ours = || {
         value = value.wrapping_add(1);
@@ -205,6 +206,25 @@ fn frame_row(random: &mut Random) -> Row {
     assert!(record == other, "next frame differs");
     Row {
         what: "next frame: a record read, changed and written".to_string(),
+        narephon: times[0],
+        fast: times[1],
+        target: None,
+    }
+}
+
+/// All of a record is gone through, and its place told. Fast makes no state either.
+fn bad_colour_row(random: &mut Random) -> Row {
+    let mut record = record_of(&base(random));
+    let last = record.len() - 2;
+    record[last] = 2;
+    let mut ours = || {
+        let refusal = narephon::check_record(black_box(&record)).map_err(|refusal| refusal.place);
+        assert_eq!(refusal, Err(Some(last)));
+    };
+    let mut fast = || assert_eq!(fast::check_record(black_box(&record)), (18, last));
+    let times = interleaved(150, 500, &mut [&mut ours, &mut fast]);
+    Row {
+        what: "a record judged whose last colour is bad".to_string(),
         narephon: times[0],
         fast: times[1],
         target: None,

@@ -111,12 +111,13 @@ fn step(state: &mut State, kind: u8, number: u16, value: u8) -> Result<String, S
 }
 
 /// The reply of reading a record and, where it is 0, whether writing gives the
-/// same bytes.
+/// same bytes, else the place that it tells.
 fn record(bytes: &[u8]) -> String {
-    match (read_record(bytes).0, writes_back(bytes)) {
+    let (reply, place, _) = read_record(bytes);
+    match (reply, writes_back(bytes)) {
         (DONE, true) => format!("{DONE} same\n"),
         (DONE, false) => format!("{DONE} different\n"),
-        (reply, _) => format!("{reply}\n"),
+        _ => format!("{reply} {place}\n"),
     }
 }
 
@@ -144,8 +145,8 @@ fn screen(record: &str, ula: &str, tile: &str) -> Result<Screen, String> {
 /// The state in a file that must be a record.
 fn known(record: &str) -> Result<State, String> {
     match read_record(&load(record)?) {
-        (DONE, state) => Ok(state),
-        (reply, _) => Err(format!("{record}: refused {reply}")),
+        (DONE, _, state) => Ok(state),
+        (reply, place, _) => Err(format!("{record}: refused {reply} at {place}")),
     }
 }
 

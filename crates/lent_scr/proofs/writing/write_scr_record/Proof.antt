@@ -1,7 +1,7 @@
 -- What is judged of the record's reply and state is written.
 use mathlib.Core.Path.{ap, _∙_}
 use Rattle.reply.specs.declared.Reply.{Reply}
-use Rattle.state.specs.declared.Answer.{Answer}
+use Rattle.record_layout.specs.declared.RecordRead.{RecordRead}
 use Rattle.record_layout.specs.Record.{readRecord}
 use Rattle.scr.specs.Writes.{writtenAnswer, fileAfter}
 use Rattle.scr.proofs.Write.{judged-lengths}
@@ -34,9 +34,9 @@ returns c =
     let q = c .before .before .before .before .write-reply in
     let w = c .before .before .write-judged in
     let r = written-by-record (a .bytes .now) (a .bank .now) (a .file .now) (b .result) (m .result) (q .result) (b .ensures) (m .ensures) (q .ensures) in (
-      w .ensures .0 ∙ ap (λ (x : Answer). writtenAnswer (q .result) (x .state)) (b .ensures)
+      w .ensures .0 ∙ ap (λ (x : RecordRead). writtenAnswer (q .result) (x .state)) (b .ensures)
           ∙ ap (λ (x : Reply). writtenAnswer x (readRecord (a .bytes .now) .state)) r,
-      w .ensures .1 ∙ ap (λ (x : Answer). fileAfter (q .result) (x .state) (a .bank .now) (a .file .now)) (b .ensures)
+      w .ensures .1 ∙ ap (λ (x : RecordRead). fileAfter (q .result) (x .state) (a .bank .now) (a .file .now)) (b .ensures)
           ∙ ap (λ (x : Reply). fileAfter x (readRecord (a .bytes .now) .state) (a .bank .now) (a .file .now)) r,
     )
 

@@ -35,15 +35,18 @@ usize-of-requires-2 c κs = search needs
 add-following : tie.Need-add-following
 add-following c = search needs
 
-add-result : tie.Need-add-result
-add-result c = search needs
-
 following-of-requires : tie.Need-following-of-requires
 following-of-requires c κs = search needs
 
+following-of-requires-2 : tie.Need-following-of-requires-2
+following-of-requires-2 c κs = search needs
+
+add-result : tie.Need-add-result
+add-result c = search needs
+
 returns-2 : tie.Need-returns-2
 unfolding counted
-returns-2 c = rw (c .before .before .before .usize-of .ensures .0, c .before .usize-of2 .ensures .0, c .following-of .ensures)
+returns-2 c = rw (c .before .before .before .before .usize-of .ensures .0, c .before .before .usize-of2 .ensures .0, c .before .following-of .ensures, c .following-of2 .ensures)
 
 pub has-count-spec : {M : Type 1} → statement M
 has-count-spec =
@@ -57,6 +60,7 @@ has-count-spec =
     shared-slice-read-usize-of-2
     usize-of-requires-2
     add-following
-    add-result
     following-of-requires
+    following-of-requires-2
+    add-result
     returns-2)
