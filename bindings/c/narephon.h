@@ -21,11 +21,11 @@
  *
  * A buffer is a pointer and its number of elements. A pointer is not null,
  * also where the number is 0. What is lent for reading may overlap: `ula` and
- * `tile` may be the same pointer. What is lent for writing (the record of a
- * call that changes it, the `target` of a move, the bank that a screen file is
- * read into, the file that one is written into, `dots`, `map`, `definitions`,
- * and `value`, `count`, `colours`, `length` and `place` too) overlaps nothing
- * else that the call is given.
+ * `tile` may be the same pointer, and so may `layer2` and `sprites`. What is
+ * lent for writing (the record of a call that changes it, the `target` of a
+ * move, the bank that a screen file is read into, the file that one is written
+ * into, `dots`, `map`, `definitions`, and `value`, `count`, `colours`, `length`
+ * and `place` too) overlaps nothing else that the call is given.
  *
  * The library keeps nothing between calls and has no data of its own that it
  * writes. Calls may run side by side in several threads as long as none writes
@@ -42,9 +42,9 @@ extern "C" {
 #endif
 
 /* The version of this header and of the library that it is delivered with. */
-#define NAREPHON_VERSION "0.4.0"
+#define NAREPHON_VERSION "0.5.0"
 #define NAREPHON_VERSION_MAJOR 0
-#define NAREPHON_VERSION_MINOR 4
+#define NAREPHON_VERSION_MINOR 5
 #define NAREPHON_VERSION_PATCH 0
 
 /* Lengths, in elements. */
@@ -56,6 +56,11 @@ extern "C" {
 #define NAREPHON_MAP 2560
 #define NAREPHON_DEFINITIONS 8192
 #define NAREPHON_SCREEN 12353
+
+/* Numbers of a lent line, besides the colours 0 to 511: a transparent dot, and
+ * what is added to the colour of a Layer 2 dot that has priority. */
+#define NAREPHON_TRANSPARENT 512
+#define NAREPHON_PRIORITY 1024
 
 /* Reply numbers. */
 enum narephon_reply {
@@ -77,7 +82,9 @@ enum narephon_reply {
     NAREPHON_PAIRS_DIFFER = 15,    /* the record cannot be moved back: $26 is not $32, or $27 is not $33 */
     NAREPHON_WRONG_COUNT = 16,     /* the record's stated number is missing, is not the number of bytes following, or is neither 2,148 nor 2,150 */
     NAREPHON_WRONG_VERSION = 17,   /* the record's version is not read here, or is not the one of its length */
-    NAREPHON_BAD_FIELD = 18        /* a field of the record is out of its bounds */
+    NAREPHON_BAD_FIELD = 18,       /* a field of the record is out of its bounds */
+    NAREPHON_NO_ORDER = 19,        /* $15 bits 4-2 are 110 or 111, which is no order of the layers */
+    NAREPHON_BAD_DOT = 20          /* a number of the Layer 2 line or of the sprite line is not allowed */
 };
 
 /* Below, "replies" are the refusals of a call in the order in which they are
@@ -153,6 +160,24 @@ uint8_t narephon_draw(const uint8_t *record, size_t record_len,
                       const uint8_t *ula, size_t ula_len,
                       const uint8_t *tile, size_t tile_len,
                       uint32_t line, uint16_t *dots, size_t dots_len);
+
+/* Draws a line as narephon_draw does, with two finished lines of the caller's
+ * composed into it: Layer 2's and the sprites', NAREPHON_DOTS numbers each. A
+ * number is a colour, 0 to 511, or NAREPHON_TRANSPARENT; in `layer2` also a
+ * colour + NAREPHON_PRIORITY. Every number is judged, a hidden one too. Register
+ * $15 bits 4-2 are the order from the top, S the sprites, L Layer 2, U the ULA
+ * and the tilemap together: 000 SLU, 001 LSU, 010 SUL, 011 LUS, 100 USL, 101 ULS.
+ * The topmost dot that is not transparent shows, or the fallback colour where
+ * there is none; a Layer 2 dot with priority shows in every order. Register $14
+ * makes no dot of the two lines transparent.
+ * Replies: 1, 2, 3, 16, 17, 18, 6, 7, 5, 8, 19, 20.
+ * A refusal leaves `dots` as it was. */
+uint8_t narephon_draw_layers(const uint8_t *record, size_t record_len,
+                             const uint8_t *ula, size_t ula_len,
+                             const uint8_t *tile, size_t tile_len,
+                             const uint16_t *layer2, size_t layer2_len,
+                             const uint16_t *sprites, size_t sprites_len,
+                             uint32_t line, uint16_t *dots, size_t dots_len);
 
 /* Reads a screen file (.scr) into `bank` and into the state in `record`;
  * `bank_len` is NAREPHON_BANK. The file's length tells its form: 6,912 bytes are

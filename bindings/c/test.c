@@ -8,7 +8,7 @@ static uint8_t record[NAREPHON_RECORD], before[NAREPHON_RECORD], bank[NAREPHON_B
 static uint8_t old[NAREPHON_OLD_RECORD], kept[NAREPHON_OLD_RECORD], moved[NAREPHON_RECORD];
 static uint8_t file[NAREPHON_SCREEN], written[NAREPHON_SCREEN], screen[NAREPHON_BANK];
 static uint8_t picture[NAREPHON_PICTURE], map[NAREPHON_MAP], definitions[NAREPHON_DEFINITIONS];
-static uint16_t dots[NAREPHON_DOTS];
+static uint16_t dots[NAREPHON_DOTS], layer2[NAREPHON_DOTS], sprites[NAREPHON_DOTS];
 static uint32_t colours, length, place;
 static int failures;
 
@@ -234,6 +234,108 @@ static void old_records(void) {
     same("old record kept", (uint32_t)memcmp(kept, old, sizeof old), 0);
 }
 
+/* A dot of the two lent lines, and what shows of it in each of the orders SLU, LSU, SUL, LUS, USL and ULS. */
+struct lent {
+    size_t at;
+    uint16_t layer2, sprite, shown[6];
+};
+
+/* U, the dot of ULA and tilemap, is 448 up to dot 63, and transparent from there to 575. */
+static const struct lent lent_dots[] = {
+    {0, 7, 9, {9, 7, 9, 7, 448, 448}},
+    {1, 7, NAREPHON_TRANSPARENT, {7, 7, 448, 7, 448, 448}},
+    {2, NAREPHON_TRANSPARENT, 9, {9, 9, 9, 448, 448, 448}},
+    {3, NAREPHON_TRANSPARENT, NAREPHON_TRANSPARENT, {448, 448, 448, 448, 448, 448}},
+    {4, 7 + NAREPHON_PRIORITY, 9, {7, 7, 7, 7, 7, 7}},
+    {64, 7, 9, {9, 7, 9, 7, 9, 7}},
+    {65, 7, NAREPHON_TRANSPARENT, {7, 7, 7, 7, 7, 7}},
+    {66, NAREPHON_TRANSPARENT, 9, {9, 9, 9, 9, 9, 9}},
+    {67, NAREPHON_TRANSPARENT, NAREPHON_TRANSPARENT, {56, 56, 56, 56, 56, 56}},
+    {575, NAREPHON_PRIORITY, 511, {0, 0, 0, 0, 0, 0}},
+    {639, 511 + NAREPHON_PRIORITY, NAREPHON_TRANSPARENT, {511, 511, 511, 511, 511, 511}},
+};
+
+/* Line 32 with lent lines of so many numbers. */
+static uint8_t draw_layers_of(size_t layer2_len, size_t sprites_len, size_t dots_len) {
+    return narephon_draw_layers(record, sizeof record, bank, sizeof bank, bank, sizeof bank, layer2, layer2_len, sprites,
+                                sprites_len, 32, dots, dots_len);
+}
+
+static uint8_t draw_layers(void) {
+    return draw_layers_of(NAREPHON_DOTS, NAREPHON_DOTS, NAREPHON_DOTS);
+}
+
+/* The border is red, 448, the fallback green, 56, and the display clipped away. */
+static void layers_begun(void) {
+    same("reset", narephon_reset(record, sizeof record), NAREPHON_DONE);
+    write_register(0x40, 16);
+    write_register(0x41, 0xE0);
+    write_register(0x4A, 0x1C);
+    write_register(0x1A, 255);
+    write_register(0x1A, 0);
+    for (size_t i = 0; i < NAREPHON_DOTS; i++) layer2[i] = sprites[i] = NAREPHON_TRANSPARENT;
+}
+
+static void layers(void) {
+    size_t count = sizeof lent_dots / sizeof *lent_dots;
+    layers_begun();
+    for (size_t i = 0; i < count; i++) {
+        layer2[lent_dots[i].at] = lent_dots[i].layer2;
+        sprites[lent_dots[i].at] = lent_dots[i].sprite;
+    }
+    for (uint8_t order = 0; order < 6; order++) {
+        write_register(0x15, (uint8_t)(order * 4));
+        same("layers", draw_layers(), NAREPHON_DONE);
+        for (size_t i = 0; i < count; i++) same("what shows", dots[lent_dots[i].at], lent_dots[i].shown[order]);
+    }
+}
+
+/* By the old record, with one line lent as both. */
+static uint8_t draw_one_lent(void) {
+    return narephon_draw_layers(old, sizeof old, bank, sizeof bank, bank, sizeof bank, layer2, NAREPHON_DOTS, layer2,
+                                NAREPHON_DOTS, 32, dots, NAREPHON_DOTS);
+}
+
+static void old_layers(void) {
+    layers_begun();
+    told("back", move_back(sizeof old), NAREPHON_DONE, 0);
+    layer2[0] = 7;
+    same("one line lent", draw_one_lent(), NAREPHON_DONE);
+    same("its dot", dots[0], 7);
+    same("the next", dots[1], 448);
+    layer2[0] = NAREPHON_PRIORITY;
+    same("one line with priority", draw_one_lent(), NAREPHON_BAD_DOT);
+}
+
+/* The refusals of layers, from the last of their order on; the line, every dot of it 1, stays. Each bad sprite is hidden by a
+ * dot of Layer 2 with priority. */
+static void refused_layers(void) {
+    const uint16_t bad[] = {513, 1023, 1536, 2047, 65535};
+    layers_begun();
+    for (size_t i = 0; i < NAREPHON_DOTS; i++) dots[i] = 1;
+    for (size_t i = 0; i < sizeof bad / sizeof *bad; i++) {
+        layer2[639] = bad[i];
+        same("bad Layer 2", draw_layers(), NAREPHON_BAD_DOT);
+        layer2[639] = NAREPHON_PRIORITY;
+        sprites[639] = bad[i];
+        same("bad sprite", draw_layers(), NAREPHON_BAD_DOT);
+        sprites[639] = NAREPHON_TRANSPARENT;
+    }
+    sprites[0] = NAREPHON_PRIORITY;
+    same("sprite with priority", draw_layers(), NAREPHON_BAD_DOT);
+    for (uint8_t control = 0x18; control <= 0x1C; control += 4) {
+        write_register(0x15, control);
+        same("no order, bad sprite", draw_layers(), NAREPHON_NO_ORDER);
+    }
+    sprites[0] = NAREPHON_TRANSPARENT;
+    same("no order", draw_layers(), NAREPHON_NO_ORDER);
+    same("short Layer 2", draw_layers_of(639, NAREPHON_DOTS, NAREPHON_DOTS), NAREPHON_BUFFER_LENGTH);
+    same("short sprites", draw_layers_of(NAREPHON_DOTS, 639, NAREPHON_DOTS), NAREPHON_BUFFER_LENGTH);
+    same("short line", draw_layers_of(NAREPHON_DOTS, NAREPHON_DOTS, 639), NAREPHON_BUFFER_LENGTH);
+    for (size_t i = 0; i < NAREPHON_DOTS; i++) same("line kept", dots[i], 1);
+    same("draw without layers", draw_by(record, sizeof record), NAREPHON_DONE);
+}
+
 static void pictures(void) {
     uint32_t value = 99, count = 99;
     same("draw", narephon_draw(record, sizeof record, bank, sizeof bank, bank, sizeof bank, 255, dots, NAREPHON_DOTS),
@@ -332,6 +434,9 @@ int main(void) {
     refused_back();
     scrolled();
     old_records();
+    layers();
+    old_layers();
+    refused_layers();
     pictures();
     screens();
     refused_screens();

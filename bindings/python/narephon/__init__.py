@@ -1,13 +1,13 @@
 """Narephon from Python: lines, registers, records, screen files and tile packing of ZX Spectrum Next screens.
 
 A member's whole video state is a record of ``RECORD`` bytes that the caller keeps. Every function takes bytes
-(``bytes``, ``bytearray`` or ``memoryview``) and gives ``bytes`` back; what it is given it never changes. The colours of
-a screen file alone are given as a part of the file itself, a ``memoryview``. A refused call raises ``Refused``, which
-holds the ``Reply`` and prints its number and sentence; where several refusals hold, it is the first in the order that a
-function names. Bytes that are no record are refused by reply 16, 17 or 18, and ``check_record``, ``load_record`` and the
-two moves tell the place as well. An argument of another type raises ``TypeError``, and a number that the library's
-parameter cannot hold ``ValueError``, before the library is called. Nothing is kept between calls, so that calls may run
-side by side in threads.
+(``bytes``, ``bytearray`` or ``memoryview``) and gives ``bytes`` back; what it is given it never changes. A line is taken
+as any sequence of numbers, and given as a list of them. The colours of a screen file alone are given as a part of the
+file itself, a ``memoryview``. A refused call raises ``Refused``, which holds the ``Reply`` and prints its number and
+sentence; where several refusals hold, it is the first in the order that a function names. Bytes that are no record are
+refused by reply 16, 17 or 18, and ``check_record``, ``load_record`` and the two moves tell the place as well. An
+argument of another type raises ``TypeError``, and a number that the library's parameter cannot hold ``ValueError``,
+before the library is called. Nothing is kept between calls, so that calls may run side by side in threads.
 
 Records are made in version 2. One of version 1, which versions before 0.3.0 made, is an old record of ``OLD_RECORD``
 bytes: it lacks registers $26 and $27, which scroll the ULA, and its $32 and $33 stand for them. A function that only
@@ -21,19 +21,19 @@ installed; else that of the checkout in which the package stands, as ``bindings/
 from __future__ import annotations
 
 import ctypes
-from typing import Any, NamedTuple, Union
+from typing import Any, Callable, NamedTuple, Sequence, Union
 
 from . import _library, _png
 from .replies import PLACED, Refused, Reply
 
 __all__ = [
-    "BANK", "DEFINITIONS", "DOTS", "MAP", "OLD_RECORD", "PICTURE", "RECORD", "SCREEN", "BytesLike", "Packing",
-    "Refused", "Reply", "Screen", "check_record", "draw", "fewest", "is_record", "load_record", "move_back", "move_up",
-    "next_frame", "pack", "preview_png", "read_port", "read_register", "read_scr", "reset", "screen_value",
-    "write_port", "write_register", "write_scr",
+    "BANK", "DEFINITIONS", "DOTS", "MAP", "OLD_RECORD", "PICTURE", "PRIORITY", "RECORD", "SCREEN", "TRANSPARENT",
+    "BytesLike", "Packing", "Refused", "Reply", "Screen", "check_record", "draw", "draw_layers", "fewest", "is_record",
+    "load_record", "move_back", "move_up", "next_frame", "pack", "preview_png", "read_port", "read_register",
+    "read_scr", "reset", "screen_value", "write_port", "write_register", "write_scr",
 ]
 
-__version__ = "0.4.0"
+__version__ = "0.5.0"
 
 RECORD = 2152
 OLD_RECORD = 2150
@@ -43,6 +43,10 @@ PICTURE = 40960
 MAP = 2560
 DEFINITIONS = 8192
 SCREEN = 12353
+
+# Numbers of a lent line besides the colours: a transparent dot, and what is added to the colour of a priority dot.
+TRANSPARENT = 512
+PRIORITY = 1024
 
 _LINES = 256
 _COLOURS = 512
@@ -74,6 +78,16 @@ def _lent(name: str, data: BytesLike) -> tuple[ctypes.Array[ctypes.c_uint8], int
         raise TypeError(f"{name} must be bytes, a bytearray or a memoryview, not {type(data).__name__}")
     copy = bytes(data)
     return (ctypes.c_uint8 * max(len(copy), 1)).from_buffer_copy(copy or b"\0"), len(copy)
+
+
+def _lent_line(name: str, dots: Sequence[int]) -> tuple[ctypes.Array[ctypes.c_uint16], int]:
+    """A copy of the argument's numbers that a call may be lent, and how many they are; never a null pointer."""
+    try:
+        copy = list(dots)
+    except TypeError:
+        raise TypeError(f"{name} must be a sequence of numbers, not {type(dots).__name__}") from None
+    _within(16, **{f"{name}[{place}]": dot for place, dot in enumerate(copy)})
+    return (ctypes.c_uint16 * max(len(copy), 1))(*copy), len(copy)
 
 
 def _viewed(file: BytesLike) -> memoryview:
@@ -229,10 +243,10 @@ def _screen(record: BytesLike, ula: BytesLike, tile: BytesLike) -> tuple[Any, ..
     return (*_lent("record", record), *_lent("ula", ula), *_lent("tile", tile))
 
 
-def _dots(screen: tuple[Any, ...], line: int) -> list[int]:
-    """A line of a lent screen, or ``Refused``."""
+def _dots(call: Callable[..., int], lent: tuple[Any, ...], line: int) -> list[int]:
+    """A line that the call draws from what it is lent, or ``Refused``."""
     dots = (ctypes.c_uint16 * DOTS)()
-    _answered(_narephon.narephon_draw(*screen, line, dots, DOTS))
+    _answered(call(*lent, line, dots, DOTS))
     return dots[:]
 
 
@@ -243,7 +257,25 @@ def draw(record: BytesLike, ula: BytesLike, tile: BytesLike, line: int) -> list[
     16, 17, 18, 6, 7, 5 or 8; record and banks stay as they were, as they do where the line is drawn.
     """
     _within(32, line=line)
-    return _dots(_screen(record, ula, tile), line)
+    return _dots(_narephon.narephon_draw, _screen(record, ula, tile), line)
+
+
+def draw_layers(record: BytesLike, ula: BytesLike, tile: BytesLike, layer2: Sequence[int], sprites: Sequence[int],
+                line: int) -> list[int]:
+    """A line, 0 to 255, of a member's screen with finished lines of Layer 2 and of sprites, as 640 nine-bit colours.
+
+    ``ula`` and ``tile`` are the two banks of ``BANK`` bytes, which may be the same. ``layer2`` and ``sprites`` have
+    ``DOTS`` numbers each: a colour, 0 to 511, or ``TRANSPARENT``; a colour of ``layer2`` + ``PRIORITY`` is a priority
+    dot, which is above all. Register $15 bits 4-2 are the order of the layers, topmost first, with U for ULA and
+    tilemap: 000 SLU, 001 LSU, 010 SUL, 011 LUS, 100 USL, 101 ULS. The topmost that is not transparent shows, and the
+    fallback where all three are.
+
+    Raises ``Refused`` with reply 1, 2, 3, 16, 17, 18, 6, 7, 5, 8, 19 or 20; what is given stays as it was, as it does
+    where the line is drawn.
+    """
+    _within(32, line=line)
+    lent = (*_screen(record, ula, tile), *_lent_line("layer2", layer2), *_lent_line("sprites", sprites))
+    return _dots(_narephon.narephon_draw_layers, lent, line)
 
 
 def screen_value(colour: int) -> int:
@@ -254,6 +286,12 @@ def screen_value(colour: int) -> int:
     return value.value
 
 
+def _rows(lines: Sequence[Sequence[int]]) -> list[bytes]:
+    """Lines of dots as rows of a picture, in the colours' screen values."""
+    pixels = [screen_value(colour).to_bytes(3, "big") for colour in range(_COLOURS)]
+    return [b"".join([pixels[dot] for dot in dots]) for dots in lines]
+
+
 def preview_png(record: BytesLike, ula: BytesLike, tile: BytesLike) -> bytes:
     """A member's whole screen as a PNG file, 640 × 512: each of the 256 lines twice, in the colours' screen values.
 
@@ -261,9 +299,7 @@ def preview_png(record: BytesLike, ula: BytesLike, tile: BytesLike) -> bytes:
     does, with reply 2, 16, 17, 18, 6, 7, 5 or 8, before anything is made; record and banks stay as they were.
     """
     screen = _screen(record, ula, tile)
-    lines = [_dots(screen, line) for line in range(_LINES)]
-    pixels = [screen_value(colour).to_bytes(3, "big") for colour in range(_COLOURS)]
-    rows = [b"".join([pixels[dot] for dot in dots]) for dots in lines]
+    rows = _rows([_dots(_narephon.narephon_draw, screen, line) for line in range(_LINES)])
     return _png.encoded(DOTS, [row for row in rows for _ in range(2)])
 
 

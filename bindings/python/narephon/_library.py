@@ -23,6 +23,7 @@ _SIGNATURES = {
     "narephon_read_register": [*_BYTES, ctypes.c_uint8, _BYTE],
     "narephon_read_port": [*_BYTES, ctypes.c_uint16, _BYTE],
     "narephon_draw": [*_BYTES, *_BYTES, *_BYTES, ctypes.c_uint32, *_NUMBERS],
+    "narephon_draw_layers": [*_BYTES, *_BYTES, *_BYTES, *_NUMBERS, *_NUMBERS, ctypes.c_uint32, *_NUMBERS],
     "narephon_read_scr": [*_BYTES, *_BYTES, *_BYTES, _WORD],
     "narephon_write_scr": [*_BYTES, *_BYTES, *_BYTES, _WORD],
     "narephon_screen_value": [ctypes.c_uint32, _WORD],

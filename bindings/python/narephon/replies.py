@@ -39,6 +39,8 @@ class Reply(IntEnum):
     WRONG_COUNT = 16, "the record's stated number is missing, is not the number of bytes following, or is neither 2,148 nor 2,150"
     WRONG_VERSION = 17, "the record's version is not read here, or is not the one of its length"
     BAD_FIELD = 18, "a field of the record is out of its bounds"
+    NO_ORDER = 19, "$15 bits 4-2 are 110 or 111, which is no order of the layers"
+    BAD_DOT = 20, "a number of the Layer 2 line or of the sprite line is not allowed"
 
     @classmethod
     def _missing_(cls, value: object) -> Reply | None:

@@ -182,12 +182,12 @@ class Header(Case):
         stated = re.findall(r'^#define NAREPHON_VERSION "(.*)"$', self.header, re.MULTILINE)
         self.assertEqual(stated, [narephon.__version__])
 
-    def test_the_lengths(self) -> None:
-        stated = re.findall(r"^#define NAREPHON_((?:OLD_)?RECORD|BANK|DOTS|PICTURE|MAP|DEFINITIONS|SCREEN) (\d+)$",
-                            self.header, re.MULTILINE)
-        self.assertEqual(len(stated), 8)
-        for name, length in stated:
-            self.assertEqual(getattr(narephon, name), int(length), name)
+    def test_the_lengths_and_the_numbers_of_dots(self) -> None:
+        stated = re.findall(r"^#define NAREPHON_((?!VERSION)\w+) (\d+)$", self.header, re.MULTILINE)
+        self.assertEqual([name for name, _ in stated], ["RECORD", "OLD_RECORD", "BANK", "DOTS", "PICTURE", "MAP",
+                                                       "DEFINITIONS", "SCREEN", "TRANSPARENT", "PRIORITY"])
+        for name, number in stated:
+            self.assertEqual(getattr(narephon, name), int(number), name)
 
     def test_the_calls(self) -> None:
         stated = re.findall(r"^uint8_t (narephon_\w+)\(", self.header, re.MULTILINE)

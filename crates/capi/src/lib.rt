@@ -12,6 +12,7 @@ pub use changes::narephon_write_register;
 pub use moves::narephon_move_back;
 pub use moves::narephon_move_up;
 pub use pictures::narephon_draw;
+pub use pictures::narephon_draw_layers;
 pub use pictures::narephon_fewest;
 pub use pictures::narephon_pack;
 pub use pictures::narephon_screen_value;

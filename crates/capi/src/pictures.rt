@@ -5,7 +5,9 @@ ghost use Rattle.colour.specs.Screen.{screenAnswer};
 ghost use Rattle.capi.specs.Packed.{LentPacked, LentFewest};
 ghost use lib.ListN.{length};
 ghost use Rattle.lent_drawing.specs.Drawn.{lentDrawReply, lentDrawn};
+ghost use Rattle.lent_layers.specs.Lent.{lentLayersReply, lentLayered};
 ghost use Rattle.capi.specs.Lines.{numbered};
+use lent_layers::draw_layers_record;
 use reply::number;
 use surface::LineNumber;
 
@@ -36,6 +38,34 @@ pub extern "C" fn narephon_draw(
         × (now (dots .exit) ≡ lentDrawn (numbered line) (now (ula .entry)) (now (tile .entry)) (now (dots .entry)) (now (bytes .entry))) ⌝ }
 {
     let r = lent::draw_record(bytes, ula, tile, LineNumber(line as usize), dots);
+    number(r)
+}
+
+// Draws a line as `narephon_draw` does, with the finished lines `layer2` and `sprites` of 640 numbers each by the order of $15 bits 4-2:
+// 0 to 511 a colour, 512 transparent, and in `layer2` a colour + 1,024, which is above all. Refused by 1, 2, 3, 16, 17, 18, 6, 7, 5, 8, 19
+// or 20, in this order, it leaves `dots`.
+#[no_mangle]
+pub extern "C" fn narephon_draw_layers(
+    bytes: &[u8],
+    ula: &[u8],
+    tile: &[u8],
+    layer2: &[u16],
+    sprites: &[u16],
+    line: u32,
+    dots: &mut [u16],
+) -> u8
+    ensures { λ r. ⌜ (r ≡ replyNumber (lentLayersReply (numbered line) (length (now (ula .entry))) (length (now (tile .entry))) (length (now (dots .entry))) (now (bytes .entry)) (now (layer2 .entry)) (now (sprites .entry))))
+        × (now (dots .exit) ≡ lentLayered (numbered line) (now (ula .entry)) (now (tile .entry)) (now (dots .entry)) (now (bytes .entry)) (now (layer2 .entry)) (now (sprites .entry))) ⌝ }
+{
+    let r = draw_layers_record(
+        bytes,
+        ula,
+        tile,
+        layer2,
+        sprites,
+        LineNumber(line as usize),
+        dots,
+    );
     number(r)
 }
 

@@ -3,7 +3,7 @@
 -- before the state is judged.
 use Prim.Native.Nat.{ℕ, _≤_, _<_}
 use borrow.Author.Tests.{leb-true, ltb-true}
-use mathlib.Core.Path.{_≡_, refl, sym, ap, ap₂, _∙_}
+use mathlib.Core.Path.{_≡_, refl, sym, ap, ap₂, subst, _∙_}
 use mathlib.Core.List.{List, [], _∷_}
 use mathlib.Core.Bool.{Bool, true, false, cond}
 use lib.ListN.{length, getD}
@@ -40,6 +40,7 @@ use Rattle.record_layout.proofs.Read.{ulafirst-read, ulasecond-read, tilefirst-
 use Rattle.record_layout.proofs.Stages.{accepts, done-accepted}
 use Rattle.record_layout.proofs.RoundTrip.{long, state-lawful}
 use Rattle.line.specs.Lines.{tilePalette, tileDotOf, composedLine, drawnLine}
+use Rattle.line.specs.Shown.{ShownBytes}
 use Rattle.line_dots.specs.Compose.{stencilOn, finished, composed}
 use Rattle.line_replies.specs.Replies.{lineReply, lengthsReply, stateReply, drawnIf}
 use Rattle.line_replies.proofs.Exits.{line-met, lengths-met, left}
@@ -89,6 +90,12 @@ module _ (v : Version) (b : List ℕ) (g : RecordBounds v b) where
       let s = stateAs v b in
       let k = lawful-kept s (g .lawful) in
       shown-colours (tileSecondShown (s .tiles)) pal (s .tilefirst) (s .tilesecond) ep (k .tilefirst) (k .tilesecond)
+
+-- what the types of the groups give of their bytes
+pub bytes-read : (v : Version) (b : List ℕ) (u : Ula) (plus : List ℕ) → u ≡ stateAs v b .ula → plus ≡ stateAs v b .plus → u .fallback < 256 → ((i : ℕ) → getD plus i 0 < 256)
+    → ShownBytes (stateAs v b)
+bytes-read v b u plus eu ep f h =
+    record { fallback = subst (λ (x : Ula). x .fallback < 256) eu f; plus = λ i. subst (λ (xs : List ℕ). getD xs i 0 < 256) ep (h i) }
 
 module _ (v : Version) (b bank : List ℕ) (line : LineNumber) where
   pub ula-laid : (u : Ula) (p : Palette) (o : Ports) (frame : ℕ) (clip plus pal out : List ℕ) → u ≡ stateAs v b .ula → p ≡ stateAs v b .palette → o ≡ stateAs v b .ports

@@ -10,6 +10,7 @@ ghost use Rattle.surface.specs.Lines.{isLine};
 ghost use Rattle.record_layout.specs.Record.{stateAs};
 ghost use Rattle.ula.specs.Lines.{ulaDot};
 ghost use Rattle.line.specs.Lines.{composedLine, drawnLine};
+ghost use Rattle.line.specs.Shown.{ShownBytes};
 ghost use Rattle.line_replies.specs.Replies.{lineReply, lengthsReply, stateReply, drawnIf};
 ghost use Rattle.lent_drawing.specs.Drawn.{lentDrawReply, lentDrawn};
 ghost use Rattle.lent_drawing.specs.Bounds.{RecordBounds, tilesLaid};
@@ -22,7 +23,7 @@ use surface::LineNumber;
 // The ULA's dots of a line.
 fn lay_ula(bytes: &[u8], v: Version, bank: &[u8], line: LineNumber, dots: &mut [u16])
     requires { ⌜ (RecordBounds v (now bytes)) × (isLine line ≡ true) × (length (now bank) ≡ 16384) × (length (now dots) ≡ 640) ⌝ }
-    ensures { λ _. ⌜ now (dots .exit) ≡ tab (ulaDot (stateAs v (now (bytes .entry))) (now (bank .entry)) line) 640 ⌝ }
+    ensures { λ _. ⌜ (now (dots .exit) ≡ tab (ulaDot (stateAs v (now (bytes .entry))) (now (bank .entry)) line) 640) × (ShownBytes (stateAs v (now (bytes .entry)))) ⌝ }
 {
     let u = record_groups::ula_at(bytes, v);
     let p = record_groups::palette_at(bytes, v);
@@ -46,11 +47,18 @@ fn lay_tiles(bytes: &[u8], v: Version, bank: &[u8], line: LineNumber, dots: &mut
     line_tiles::tiles_over(u, t, &clip, &pal, bank, line, dots);
 }
 
-// The composed line, by the layers of `line`. Where the tilemap is off its palette is not read, as one call with both palettes would
-// have to.
-fn lay_layers(bytes: &[u8], v: Version, ula: &[u8], tile: &[u8], line: LineNumber, dots: &mut [u16])
+// The composed line of a record that is judged, and what the types of its bytes give. Where the tilemap is off its palette is not read,
+// as one call of `line` with both palettes would have to.
+pub fn composed_record(
+    bytes: &[u8],
+    v: Version,
+    ula: &[u8],
+    tile: &[u8],
+    line: LineNumber,
+    dots: &mut [u16],
+)
     requires { ⌜ (RecordBounds v (now bytes)) × (isLine line ≡ true) × (length (now ula) ≡ 16384) × (length (now tile) ≡ 16384) × (length (now dots) ≡ 640) ⌝ }
-    ensures { λ _. ⌜ now (dots .exit) ≡ composedLine (stateAs v (now (bytes .entry))) (now (ula .entry)) (now (tile .entry)) line ⌝ }
+    ensures { λ _. ⌜ (now (dots .exit) ≡ composedLine (stateAs v (now (bytes .entry))) (now (ula .entry)) (now (tile .entry)) line) × (ShownBytes (stateAs v (now (bytes .entry)))) ⌝ }
 {
     lay_ula(bytes, v, ula, line, dots);
     let t = record_groups::tiles_at(bytes);
@@ -64,9 +72,21 @@ fn draw_line(bytes: &[u8], v: Version, ula: &[u8], tile: &[u8], line: LineNumber
     requires { ⌜ (RecordBounds v (now bytes)) × (isLine line ≡ true) × (length (now ula) ≡ 16384) × (length (now tile) ≡ 16384) × (length (now dots) ≡ 640) ⌝ }
     ensures { λ _. ⌜ now (dots .exit) ≡ drawnLine (stateAs v (now (bytes .entry))) (now (ula .entry)) (now (tile .entry)) line ⌝ }
 {
-    lay_layers(bytes, v, ula, tile, line, dots);
+    composed_record(bytes, v, ula, tile, line, dots);
     let u = record_groups::ula_at(bytes, v);
     line_dots::finish_line(colour::widen(u.fallback), dots);
+}
+
+// What the state in a record is refused for.
+pub fn state_judged(bytes: &[u8], v: Version) -> Reply
+    requires { ⌜ RecordBounds v (now bytes) ⌝ }
+    ensures { λ r. ⌜ r ≡ stateReply (stateAs v (now (bytes .entry)) .ula) (stateAs v (now (bytes .entry)) .tiles) (stateAs v (now (bytes .entry)) .palette) (stateAs v (now (bytes .entry)) .ports) ⌝ }
+{
+    let u = record_groups::ula_at(bytes, v);
+    let t = record_groups::tiles_at(bytes);
+    let p = record_groups::palette_at(bytes, v);
+    let ports = record_groups::ports_at(bytes, v);
+    line_replies::state_reply(u, t, p, ports)
 }
 
 // The line of a record that is judged, or what the state in it is refused for.
@@ -82,11 +102,7 @@ fn draw_judged(
     ensures { λ r. ⌜ (r ≡ stateReply (stateAs v (now (bytes .entry)) .ula) (stateAs v (now (bytes .entry)) .tiles) (stateAs v (now (bytes .entry)) .palette) (stateAs v (now (bytes .entry)) .ports))
         × (now (dots .exit) ≡ drawnIf r (drawnLine (stateAs v (now (bytes .entry))) (now (ula .entry)) (now (tile .entry)) line) (now (dots .entry))) ⌝ }
 {
-    let u = record_groups::ula_at(bytes, v);
-    let t = record_groups::tiles_at(bytes);
-    let p = record_groups::palette_at(bytes, v);
-    let ports = record_groups::ports_at(bytes, v);
-    let r = line_replies::state_reply(u, t, p, ports);
+    let r = state_judged(bytes, v);
     if number(r) == 0 {
         draw_line(bytes, v, ula, tile, line, dots);
     }
@@ -94,7 +110,7 @@ fn draw_judged(
 }
 
 // What refuses a drawing before the state in the record is judged: the line, the lengths, the record.
-fn early_reply(line: LineNumber, ula: usize, tile: usize, dots: usize, stored: Reply) -> Reply
+pub fn early_reply(line: LineNumber, ula: usize, tile: usize, dots: usize, stored: Reply) -> Reply
     ensures { λ r. ⌜ r ≡ firstHit (lineReply line ∷ lengthsReply ula tile dots ∷ stored ∷ []) ⌝ }
 {
     let lengths = line_replies::lengths_reply(ula, tile, dots);

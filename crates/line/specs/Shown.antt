@@ -4,6 +4,7 @@ use Prim.Native.Nat.{ℕ, _≤_, _<_}
 use mathlib.Core.Path.{_≡_}
 use mathlib.Core.List.{List}
 use mathlib.Core.Bool.{true}
+use lib.ListN.{getD}
 use Rattle.state_bits.specs.Bits.{tilemapOn}
 use Rattle.register_bounds.specs.Bounds.{isMask}
 use Rattle.state.specs.Lawful.{allColours}
@@ -50,3 +51,8 @@ pub record ShownBounds (v : Shown) (tilepal : List ℕ) : Type 0 where
   pub map : v .tiles .map < 64
   pub definitions : v .tiles .definitions < 64
   pub colours : tilemapOn (v .tiles) ≡ true → allColours tilepal ≡ true
+
+-- the bytes of a state that the bound of a dot goes by, as their types give it
+pub record ShownBytes (s : State) : Type 0 where
+  pub fallback : s .ula .fallback < 256
+  pub plus : (i : ℕ) → getD (s .plus) i 0 < 256

@@ -12,6 +12,7 @@ use lib.Dec.{eqb}
 use borrow.Author.Tests.{eqb-false}
 use Rattle.lists.proofs.Cond.{either}
 use Rattle.colour.specs.Bytes.{widened, plusColour}
+use Rattle.colour.proofs.Widened.{widened-most}
 use Rattle.state_bits.specs.Bits.{ulaSecondShown, tileSecondShown}
 use Rattle.state.specs.declared.State.{State}
 use Rattle.state.specs.Lawful.{allColours, lawfulState}
@@ -36,6 +37,7 @@ use Rattle.ula.specs.Lines.{inDots, rowDot, ulaDot}
 use Rattle.tilemap.specs.Dots.{TileDot, clear, shows}
 use Rattle.line_dots.specs.Compose.{tileColour, ulaUpper, stencilled, composed, stencilOn}
 use Rattle.line.specs.Lines.{tilePalette, tileDotOf, composedDot, lineDot}
+use Rattle.line.specs.Shown.{ShownBytes}
 use Rattle.line_laws.specs.Claims.{DotsAreColours}
 
 -- one of two that are at most n
@@ -43,10 +45,6 @@ one-of : (n : ℕ) (b : Bool) (x y : ℕ) → x ≤ n → y ≤ n → cond b x y
 one-of n = either (λ d. d ≤ n)
 
 -- ---- colours
-
-widened-colour : (b : ℕ) → b < 256 → widened b ≤ 511
-unfolding widened
-widened-colour b h = one-of 511 (eqb (b % 4) 0) (b * 2) (b * 2 + 1) (omega arith) (omega arith)
 
 -- red, green, and two bits of blue with its third
 three-parts : (r g b l : ℕ) → r < 8 → g < 8 → b < 4 → l < 2 → r * 64 + g * 8 + b * 2 + l ≤ 511
@@ -130,7 +128,7 @@ composed-dot stencil pal u d c p =
     one-of 512 stencil _ _ (one-of 512 (eqb u 512 || eqb t 512) 512 (bitAnd u t) (omega arith) (le-trans (and-le-l u t) p))
     (one-of 512 (ulaUpper d) (topDot u t) (topDot t u) (top-dot u t p q) (top-dot t u q p))
 
-module _ (s : State) (typed : Typed s) (lawful : lawfulState s ≡ true) where
+module _ (s : State) (bytes : ShownBytes s) (lawful : lawfulState s ≡ true) where
   ula-colours : allColours (ulaPalette s) ≡ true
   unfolding ulaPalette
   ula-colours =
@@ -145,17 +143,24 @@ module _ (s : State) (typed : Typed s) (lawful : lawfulState s ≡ true) where
 
   fallback : coloursOf (s .ula) (s .palette) (s .ports) (s .frame) .fallback ≤ 511
   unfolding coloursOf
-  fallback = widened-colour (s .ula .fallback) (typed .ula .fallback)
+  fallback = widened-most (s .ula .fallback) (bytes .fallback)
 
   ula-dot : (bank : List ℕ) (line : LineNumber) (k : ℕ) → ulaDot s bank line k ≤ 512
   unfolding ulaDot ulaLine borderOf
   ula-dot bank line k =
       row-dot (ulaLine s (ulaPalette s) line) (ulaPalette s) (s .plus) bank fallback
-      (border-dot (coloursOf (s .ula) (s .palette) (s .ports) (s .frame)) (ulaPalette s) (s .plus) fallback ula-colours (typed .plus .below) _ _ _) ula-colours (typed .plus .below) k
+      (border-dot (coloursOf (s .ula) (s .palette) (s .ports) (s .frame)) (ulaPalette s) (s .plus) fallback ula-colours (bytes .plus) _ _ _) ula-colours (bytes .plus) k
+
+  -- a dot before the fallback is a colour or transparent
+  pub composed-most : (ula tile : List ℕ) (line : LineNumber) (k : ℕ) → composedDot s ula tile line k ≤ 512
+  unfolding composedDot
+  composed-most ula tile line k = composed-dot (stencilOn (s .ula) (s .tiles)) (tilePalette s) (ulaDot s ula line k) (tileDotOf s tile line k) tile-colours (ula-dot ula line k)
+
+pub typed-bytes : (s : State) → Typed s → ShownBytes s
+typed-bytes s typed = record { fallback = typed .ula .fallback; plus = typed .plus .below }
 
 pub dotsAreColours : DotsAreColours
-unfolding lineDot composedDot
+unfolding lineDot
 dotsAreColours s ula tile line k typed lawful =
-    finished-dot (composedDot s ula tile line k) (widened (s .ula .fallback))
-    (composed-dot (stencilOn (s .ula) (s .tiles)) (tilePalette s) (ulaDot s ula line k) (tileDotOf s tile line k) (tile-colours s typed lawful) (ula-dot s typed lawful ula line k))
-    (widened-colour (s .ula .fallback) (typed .ula .fallback))
+    finished-dot (composedDot s ula tile line k) (widened (s .ula .fallback)) (composed-most s (typed-bytes s typed) lawful ula tile line k)
+    (widened-most (s .ula .fallback) (typed .ula .fallback))

@@ -21,6 +21,7 @@ use Rattle.state.specs.Groups.{ulaWithTransparent, ulaWithLayers, ulaWithPeriph
 use Rattle.state.specs.With.{withTurns, withUlaClip, withTileClip, withPlus}
 use Rattle.state.proofs.Typed as typed
 use Rattle.colour.specs.Bytes.{widened}
+use Rattle.colour.proofs.Widened.{widened-most}
 use Rattle.register_stored.specs.Stored.{peripheralWritten, transparentWritten, layersWritten, tileXHighWritten, tileXLowWritten, tileYWritten, ulaXWritten, ulaYWritten, loresXWritten, loresYWritten, fallbackWritten, tileTransparentWritten, ulaControlWritten, tileControlWritten, tileAttributeWritten, mapWritten, definitionsWritten}
 use Rattle.register_clips.specs.Clips.{coordinate, nextTurn, ulaClipWritten, tileClipWritten, restarted, turnsWritten}
 use Rattle.register_colours.specs.Colours.{paletteAt, paletteChoice, nextIndex, colourStored, colourPut}
@@ -240,12 +241,8 @@ put-kept s c l p =
     (all-three _ _ _ (mask-of o (p .0 .palette)) (choice-of o (p .0 .palette)) refl)
     (moved-typed o (nextIndex (o .control) (o .index)) (next-byte (o .control) (o .index) (p .2 .palette .index)) (p .2 .palette))
 
-widened-below : (v : ℕ) → v < 256 → widened v ≤ 511
-unfolding widened
-widened-below v b = either (λ k. k ≤ 511) (eqb (v % 4) 0) (v * 2) (v * 2 + 1) (omega arith) (omega arith)
-
 pub eight : Sound eightWritten
-eight = always (λ s v. colourPut s (widened v)) (λ s v b p. put-kept s (widened v) (widened-below v b) p)
+eight = always (λ s v. colourPut s (widened v)) (λ s v b p. put-kept s (widened v) (widened-most v b) p)
 
 first : Sound nineFirst
 first = stored palette-group paletteWithHalf (λ p v h. all-three _ _ _ (mask-of p h) (choice-of p h) refl) typed.palette-half

@@ -6,7 +6,7 @@ use native.Mathlib.Omega.{arith}
 use Rattle.reply.specs.Reply.{replyNumber}
 use Rattle.reply.specs.Claims.{NumberTells, NoThirteen}
 use Rattle.reply.specs.declared.Reply.{Reply}
-use Rattle.reply.specs.declared.Reply.the-variants.{Done, NoLine, BankLength, BufferLength, NotLawful, NoMode, LoresWithTiles, NextWithPlus, FarOffset, NoRegister, OutOfBounds, TooManyTiles, PackingBounds, NoForm, PairsDiffer, WrongCount, WrongVersion, BadField}
+use Rattle.reply.specs.declared.Reply.the-variants.{Done, NoLine, BankLength, BufferLength, NotLawful, NoMode, LoresWithTiles, NextWithPlus, FarOffset, NoRegister, OutOfBounds, TooManyTiles, PackingBounds, NoForm, PairsDiffer, WrongCount, WrongVersion, BadField, NoOrder, BadDot}
 
 -- the member of a list at a number
 at : List Reply → ℕ → Reply
@@ -35,6 +35,8 @@ replies =
     ∷ WrongCount
     ∷ WrongVersion
     ∷ BadField
+    ∷ NoOrder
+    ∷ BadDot
     ∷ []
 
 found : (r : Reply) → at replies (replyNumber r) ≡ r
@@ -57,6 +59,8 @@ found PairsDiffer = refl
 found WrongCount = refl
 found WrongVersion = refl
 found BadField = refl
+found NoOrder = refl
+found BadDot = refl
 
 pub numberTells : NumberTells
 numberTells a b e = sym (found a) ∙ ap (at replies) e ∙ found b

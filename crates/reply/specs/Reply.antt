@@ -3,7 +3,7 @@ use Prim.Native.Nat.{ℕ}
 use mathlib.Core.Bool.{Bool}
 use lib.Dec.{eqb}
 use Rattle.reply.specs.declared.Reply.{Reply}
-use Rattle.reply.specs.declared.Reply.the-variants.{Done, NoLine, BankLength, BufferLength, NotLawful, NoMode, LoresWithTiles, NextWithPlus, FarOffset, NoRegister, OutOfBounds, TooManyTiles, PackingBounds, NoForm, PairsDiffer, WrongCount, WrongVersion, BadField}
+use Rattle.reply.specs.declared.Reply.the-variants.{Done, NoLine, BankLength, BufferLength, NotLawful, NoMode, LoresWithTiles, NextWithPlus, FarOffset, NoRegister, OutOfBounds, TooManyTiles, PackingBounds, NoForm, PairsDiffer, WrongCount, WrongVersion, BadField, NoOrder, BadDot}
 
 -- the number of each row of the table
 abbrev pub replyNumber : Reply → ℕ
@@ -44,6 +44,10 @@ replyNumber WrongCount = 16
 replyNumber WrongVersion = 17
 -- a field of a record is out of its bounds
 replyNumber BadField = 18
+-- $15 bits 4-2 are 110 or 111, where lent layers are composed
+replyNumber NoOrder = 19
+-- a number of a lent line that is not allowed
+replyNumber BadDot = 20
 
 -- a reply that refuses nothing
 abbrev pub isDone : Reply → Bool

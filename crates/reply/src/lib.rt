@@ -27,6 +27,8 @@ pub enum Reply {
     WrongCount,
     WrongVersion,
     BadField,
+    NoOrder,
+    BadDot,
 }
 
 // The paper's number of a reply. 13 is retired: 16, 17 and 18 stand in its place.
@@ -52,5 +54,7 @@ pub fn number(r: Reply) -> u8
         Reply::WrongCount => 16,
         Reply::WrongVersion => 17,
         Reply::BadField => 18,
+        Reply::NoOrder => 19,
+        Reply::BadDot => 20,
     }
 }

@@ -1,4 +1,4 @@
--- Rules 3.3, 3.5, 3.13, 3.17, 3.20, 3.21, 3.23, 5.1 and 5.2: what a bit of a stored byte means.
+-- Rules 3.3, 3.5, 3.13, 3.17, 3.20, 3.21, 3.23, 3.33, 5.1 and 5.2: what a bit of a stored byte means.
 use Prim.Native.Nat.{ℕ, _+_, _*_, _/_, _%_}
 use mathlib.Core.Bool.{Bool, true, false}
 use lib.Dec.{leb, ltb, eqb}
@@ -13,6 +13,10 @@ timexOn u = eqb (u .peripheral / 4 % 2) 1
 -- $15: bit 7 LoRes
 abbrev pub loresOn : Ula → Bool
 loresOn u = leb 128 (u .layers)
+
+-- $15: bits 4-2 are the order of the layers
+abbrev pub layerOrder : Ula → ℕ
+layerOrder u = u .layers / 4 % 8
 
 -- $43: bit 7 keeps the palette index where it is
 abbrev pub indexStays : ℕ → Bool

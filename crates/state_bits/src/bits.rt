@@ -1,7 +1,7 @@
 // What single bits of the registers mean.
 ghost use mathlib.Core.Path.{_≡_};
 ghost use Prim.Native.Nat.{_+_, _*_, _<_, _≤_};
-ghost use Rattle.state_bits.specs.Bits.{timexOn, loresOn, nextOn, ulaSecondShown, ulaOn, stencilSet, tilemapOn, columns80, oneByteEntries, tileSecondShown, columnsOf, widthOf, xOffset, indexStays};
+ghost use Rattle.state_bits.specs.Bits.{timexOn, loresOn, layerOrder, nextOn, ulaSecondShown, ulaOn, stencilSet, tilemapOn, columns80, oneByteEntries, tileSecondShown, columnsOf, widthOf, xOffset, indexStays};
 use lists::usize_of;
 use state::Palette;
 use state::Tiles;
@@ -17,6 +17,12 @@ pub fn lores_on(u: Ula) -> bool
     ensures { λ r. ⌜ r ≡ loresOn u ⌝ }
 {
     128 <= u.layers
+}
+
+pub fn layer_order(u: Ula) -> u8
+    ensures { λ r. ⌜ r ≡ layerOrder u ⌝ }
+{
+    u.layers / 4 % 8
 }
 
 pub fn next_on(p: Palette) -> bool

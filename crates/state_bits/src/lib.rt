@@ -4,6 +4,7 @@ mod bits;
 pub use bits::columns_of;
 pub use bits::columns80;
 pub use bits::index_stays;
+pub use bits::layer_order;
 pub use bits::lores_on;
 pub use bits::next_on;
 pub use bits::one_byte_entries;

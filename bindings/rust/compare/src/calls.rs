@@ -1,15 +1,17 @@
 //! Each exported call beside the model: its reply, its answer, and every lent buffer afterwards. The safe wrapper is
 //! held to the same.
 
-use crate::lent::{same, same_items, Lent};
+use crate::lent::{same, same_items, Lent, Part};
 use crate::seen::{Call, Seen};
 use crate::states::record_of;
+use model::layers::{lent_draw_layers, Stack};
 use model::reply::{
     BAD_FIELD, DONE, NO_FORM, PAIRS_DIFFER, WRONG_BUFFER, WRONG_COUNT, WRONG_VERSION,
 };
 use model::scr::{lent_read_scr, lent_write_scr};
-use model::{State, SCREEN_LENGTH};
+use model::{LentLines, State, DOTS, SCREEN_LENGTH};
 use narephon::{raw, Refusal};
+use std::fmt::Debug;
 
 /// What came of a comparison: a reply that both gave, or what differs.
 pub type Checked = Result<u8, String>;
@@ -263,50 +265,109 @@ fn moving(
     Ok((told, wanted))
 }
 
-/// The two banks of a line. Where there is one, it is lent as both.
-pub struct Banks {
-    banks: Vec<(Lent<u8>, Vec<u8>)>,
+/// Two buffers lent for reading. Where there is one, it is lent as both.
+pub struct Pair<T> {
+    lent: Vec<(Lent<T>, Vec<T>)>,
 }
+
+/// The ULA bank and the tile bank of a line.
+pub type Banks = Pair<u8>;
+
+/// The Layer 2 line and the sprite line of a layered one.
+pub type Layers = Pair<u16>;
 
 impl Banks {
     pub fn two(ula: Vec<u8>, tile: Vec<u8>) -> Banks {
-        Banks {
-            banks: vec![(lend(&ula), ula), (lend(&tile), tile)],
-        }
+        Pair::of(vec![ula, tile], 0x5A)
     }
 
     pub fn one(both: Vec<u8>) -> Banks {
-        Banks {
-            banks: vec![(lend(&both), both)],
+        Pair::of(vec![both], 0x5A)
+    }
+}
+
+/// The guard is a number that no line has.
+impl Layers {
+    pub fn two(layer2: Vec<u16>, sprites: Vec<u16>) -> Layers {
+        Pair::of(vec![layer2, sprites], 0x5A5A)
+    }
+
+    pub fn one(both: Vec<u16>) -> Layers {
+        Pair::of(vec![both], 0x5A5A)
+    }
+
+    pub fn lines(&self) -> LentLines<'_> {
+        let (layer2, sprites) = self.items();
+        LentLines { layer2, sprites }
+    }
+
+    pub fn is_one(&self) -> bool {
+        self.lent.len() == 1
+    }
+}
+
+impl<T: Copy + PartialEq + Debug> Pair<T> {
+    fn of(buffers: Vec<Vec<T>>, guard: T) -> Pair<T> {
+        let lent = buffers.into_iter();
+        Pair {
+            lent: lent
+                .map(|items| (Lent::new(&items, guard), items))
+                .collect(),
         }
     }
 
-    /// The bytes of the ULA bank and of the tile bank.
-    fn bytes(&self) -> (&[u8], &[u8]) {
-        let last = self.banks.len() - 1;
-        (&self.banks[0].1, &self.banks[last].1)
+    /// The items of the first and of the second.
+    pub fn items(&self) -> (&[T], &[T]) {
+        let last = self.lent.len() - 1;
+        (&self.lent[0].1, &self.lent[last].1)
     }
 
-    fn lent(&mut self) -> [(*mut u8, usize); 2] {
-        let last = self.banks.len() - 1;
-        [0, last].map(|place| {
-            let bank = &mut self.banks[place].0;
-            (bank.pointer(), bank.count())
-        })
+    fn lent(&mut self) -> [Part<T>; 2] {
+        let last = self.lent.len() - 1;
+        [0, last].map(|place| self.lent[place].0.part())
     }
 
-    fn check(&self) -> Result<(), String> {
-        for (bank, bytes) in &self.banks {
-            bank.check("bank", bytes)?;
+    fn check(&self, what: &str) -> Result<(), String> {
+        for (buffer, items) in &self.lent {
+            buffer.check(what, items)?;
         }
         Ok(())
     }
 }
 
+/// A drawing into a line of `length` dots, which only reads its record; the reply and the model's state.
+fn drawing(
+    record: &mut Lent<u8>,
+    length: usize,
+    modelled: impl Fn(&[u8], &mut [u16]) -> (u8, State),
+    lent: impl Fn(Part<u8>, Part<u16>) -> u8,
+    wrapped: impl Fn(&[u8], &mut [u16]) -> Result<(), narephon::Reply>,
+) -> Result<(u8, State), String> {
+    let before = record.items().to_vec();
+    // No colour, so that a dot left out is seen.
+    let blank = vec![0xAAAA; length];
+    let mut wanted = blank.clone();
+    let (reply, state) = modelled(&before, &mut wanted);
+    let mut dots = Lent::new(&blank, 0x5A5A);
+    same("reply", lent(record.part(), dots.part()), reply)?;
+    dots.check("dots", &wanted)?;
+    record.check("record", &before)?;
+    let mut copy = blank;
+    let answer = wrapped(&before, &mut copy);
+    same("wrapper's reply", number(&answer), reply)?;
+    same_items("wrapper's dots", &copy, &wanted)?;
+    Ok((reply, state))
+}
+
 /// The reply and dots of the model, and its state. 16, 17 and 18 stand in the place of 4, after 1, 2 and 3: the reset
 /// state, which is refused for nothing of its own, tells whether one of those comes first.
-fn modelled_line(record: &[u8], banks: &Banks, line: u32, dots: &mut [u16]) -> (u8, State) {
-    let (ula, tile) = banks.bytes();
+fn modelled_line(
+    record: &[u8],
+    ula: &[u8],
+    tile: &[u8],
+    line: u32,
+    dots: &mut [u16],
+) -> (u8, State) {
     let (reply, _, state) = model::read_record(record);
     if reply == DONE {
         return (model::draw(line, ula, tile, &state, dots), state);
@@ -341,38 +402,115 @@ fn compared_line(
     line: u32,
     length: usize,
 ) -> Result<(u8, State), String> {
-    let before = record.items().to_vec();
-    // No colour, so that a dot left out is seen.
-    let blank = vec![0xAAAA; length];
-    let mut wanted = blank.clone();
-    let (reply, state) = modelled_line(&before, banks, line, &mut wanted);
-    let mut dots = Lent::new(&blank, 0x5A5A);
-    same("reply", raw_draw(record, banks, line, &mut dots), reply)?;
-    dots.check("dots", &wanted)?;
-    record.check("record", &before)?;
-    banks.check()?;
-    let (ula, tile) = banks.bytes();
-    let mut copy = blank;
-    let answer = narephon::draw(&before, ula, tile, line, &mut copy);
-    same("wrapper's reply", number(&answer), reply)?;
-    same_items("wrapper's dots", &copy, &wanted)?;
-    Ok((reply, state))
+    let lent_banks = banks.lent();
+    let (ula, tile) = banks.items();
+    let drawn = drawing(
+        record,
+        length,
+        |record, dots| modelled_line(record, ula, tile, line, dots),
+        |record, dots| raw_draw(record, lent_banks, line, dots),
+        |record, dots| narephon::draw(record, ula, tile, line, dots),
+    )?;
+    banks.check("bank")?;
+    Ok(drawn)
 }
 
-fn raw_draw(record: &mut Lent<u8>, banks: &mut Banks, line: u32, dots: &mut Lent<u16>) -> u8 {
-    let [(ula, ula_length), (tile, tile_length)] = banks.lent();
+fn raw_draw(
+    (record, record_length): Part<u8>,
+    [(ula, ula_length), (tile, tile_length)]: [Part<u8>; 2],
+    line: u32,
+    (dots, length): Part<u16>,
+) -> u8 {
     // SAFETY: as above; the banks, which may be one, are read only, and the dots overlap nothing.
     unsafe {
         raw::narephon_draw(
-            record.pointer(),
-            record.count(),
+            record,
+            record_length,
             ula,
             ula_length,
             tile,
             tile_length,
             line,
-            dots.pointer(),
-            dots.count(),
+            dots,
+            length,
+        )
+    }
+}
+
+/// A line of `length` dots with lent layers.
+pub fn draw_layers(
+    record: &mut Lent<u8>,
+    banks: &mut Banks,
+    layers: &mut Layers,
+    line: u32,
+    length: usize,
+    seen: &mut Seen,
+) -> Checked {
+    let (reply, state) = compared_layers(record, banks, layers, line, length)
+        .map_err(|what| format!("draw_layers of line {line}: {what}"))?;
+    seen.lent(Call::DrawLayers, record.items(), reply);
+    let lent = layers.lines();
+    if reply != DONE {
+        seen.layers_refused(reply, &state, lent, length);
+        return Ok(reply);
+    }
+    let (ula, tile) = banks.items();
+    let stacks = (0..DOTS).map(|dot| Stack::at(line, dot, ula, tile, lent, &state));
+    seen.layers_drawn(&state, layers.is_one(), stacks);
+    Ok(reply)
+}
+
+fn compared_layers(
+    record: &mut Lent<u8>,
+    banks: &mut Banks,
+    layers: &mut Layers,
+    line: u32,
+    length: usize,
+) -> Result<(u8, State), String> {
+    let (lent_banks, lent_layers) = (banks.lent(), layers.lent());
+    let (ula, tile) = banks.items();
+    let lines = layers.lines();
+    let drawn = drawing(
+        record,
+        length,
+        |record, dots| {
+            let reply = lent_draw_layers(line, ula, tile, lines, record, dots);
+            (reply, model::read_record(record).2)
+        },
+        |record, dots| raw_layers(record, lent_banks, lent_layers, line, dots),
+        |record, dots| {
+            let (layer2, sprites) = (lines.layer2, lines.sprites);
+            narephon::draw_layers(record, ula, tile, layer2, sprites, line, dots)
+        },
+    )?;
+    banks.check("bank")?;
+    layers.check("lent line")?;
+    Ok(drawn)
+}
+
+fn raw_layers(
+    (record, record_length): Part<u8>,
+    [(ula, ula_length), (tile, tile_length)]: [Part<u8>; 2],
+    [(layer2, layer2_length), (sprites, sprites_length)]: [Part<u16>; 2],
+    line: u32,
+    (dots, length): Part<u16>,
+) -> u8 {
+    // SAFETY: as in `raw_draw`; the two lines, which may be one, are read only.
+    unsafe {
+        raw::narephon_draw_layers(
+            record,
+            record_length,
+            ula,
+            ula_length,
+            tile,
+            tile_length,
+            layer2,
+            layer2_length,
+            sprites,
+            sprites_length,
+            line,
+            dots,
+            length,
         )
     }
 }

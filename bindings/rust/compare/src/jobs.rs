@@ -1,11 +1,13 @@
 //! The comparison's jobs. A job is so many rounds, and a round is told by its seed alone.
 
 use crate::calls::{
-    check_record, draw, fewest, lend, move_back, move_up, next_frame, pack, read_port,
+    check_record, draw, draw_layers, fewest, lend, move_back, move_up, next_frame, pack, read_port,
     read_register, read_scr, reset, screen_value, write_port, write_register, write_scr, Banks,
     Packing,
 };
 use crate::fault_jobs;
+use crate::layer_jobs;
+use crate::layers::layers;
 use crate::lent::{same, same_items, Lent};
 use crate::move_jobs;
 use crate::pictures;
@@ -30,7 +32,7 @@ pub struct Job {
 
 /// Every job. Rounds of neighbouring seeds take register numbers, port numbers, bytes, lengths and settings in turn, so
 /// the rounds of a job are multiples of those where each is to be met.
-pub const JOBS: [Job; 19] = [
+pub const JOBS: [Job; 25] = [
     Job {
         name: "packings",
         rounds: 12 * pictures::KINDS,
@@ -95,6 +97,36 @@ pub const JOBS: [Job; 19] = [
         name: "refused lines",
         rounds: 8_000,
         run: refused_lines,
+    },
+    Job {
+        name: "layered lines",
+        rounds: 8 * SETTINGS,
+        run: layer_jobs::lines,
+    },
+    Job {
+        name: "lent places",
+        rounds: DOTS as u64,
+        run: layer_jobs::places,
+    },
+    Job {
+        name: "lent numbers",
+        rounds: 256,
+        run: layer_jobs::numbers,
+    },
+    Job {
+        name: "refused layers",
+        rounds: 8_000,
+        run: layer_jobs::refused,
+    },
+    Job {
+        name: "nothing lent",
+        rounds: 8 * SETTINGS,
+        run: layer_jobs::nothing_lent,
+    },
+    Job {
+        name: "layers above what two fallbacks tell",
+        rounds: 8 * SETTINGS,
+        run: layer_jobs::two_fallbacks,
     },
     Job {
         name: "screen values and packing bounds",
@@ -289,6 +321,8 @@ fn every_call(random: &mut Random, bytes: &[u8], seen: &mut Seen) -> Done {
     record.set(bytes);
     let mut banks = Banks::one(vec![random.byte(); BANK_LENGTH]);
     draw(&mut record, &mut banks, line(random), DOTS, seen)?;
+    let (mut lent, line) = (layers(random), line(random));
+    draw_layers(&mut record, &mut banks, &mut lent, line, DOTS, seen)?;
     let mut bank = lend(&vec![random.byte(); BANK_LENGTH]);
     write_scr(&mut record, &mut bank, seen)?;
     move_up(&mut record, RECORD_LENGTH, seen)?;
@@ -376,13 +410,18 @@ fn record_lengths(seed: u64, seen: &mut Seen) -> Done {
 fn setting(random: &mut Random, seed: u64) -> (Lent<u8>, Banks) {
     let mut state = lawful(random);
     lead(random, &mut state, seed);
+    let banks = banks(random);
+    (lend(&any_record_of(random, &state)), banks)
+}
+
+/// Two banks, or one time in four one that is lent as both.
+pub fn banks(random: &mut Random) -> Banks {
     let ula = bank(random);
-    let banks = if random.one_in(4) {
+    if random.one_in(4) {
         Banks::one(ula)
     } else {
         Banks::two(ula, bank(random))
-    };
-    (lend(&any_record_of(random, &state)), banks)
+    }
 }
 
 fn lines(seed: u64, seen: &mut Seen) -> Done {
@@ -452,20 +491,33 @@ pub fn any_bank(random: &mut Random) -> Vec<u8> {
     vec![random.byte(); length]
 }
 
+/// A line, one time in four above all that there are.
+pub fn any_line(random: &mut Random) -> u32 {
+    let above = random.pick(&[256, 257, 511, 512, 65_536, 1 << 31, u32::MAX]);
+    if random.one_in(4) {
+        above
+    } else {
+        line(random)
+    }
+}
+
+/// The number of dots, or one time in four another one.
+pub fn any_dots(random: &mut Random) -> usize {
+    let wrong = random.pick(&[0, 1, 320, 639, 641, 1_280]);
+    if random.one_in(4) {
+        wrong
+    } else {
+        DOTS
+    }
+}
+
 /// Several things wrong with a line at once, so that the order of the replies shows.
 fn refused_lines(seed: u64, seen: &mut Seen) -> Done {
     let mut random = Random::new(seed);
     let mut record = lend(&perhaps_damaged(&mut random));
     let mut banks = Banks::two(any_bank(&mut random), any_bank(&mut random));
-    let above = random.pick(&[256, 257, 511, 512, 65_536, 1 << 31, u32::MAX]);
-    let wrong = random.pick(&[0, 1, 320, 639, 641, 1_280]);
     for _ in 0..4 {
-        let line = if random.one_in(4) {
-            above
-        } else {
-            line(&mut random)
-        };
-        let length = if random.one_in(4) { wrong } else { DOTS };
+        let (line, length) = (any_line(&mut random), any_dots(&mut random));
         draw(&mut record, &mut banks, line, length, seen)?;
     }
     Ok(())

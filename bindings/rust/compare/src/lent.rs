@@ -9,6 +9,9 @@ pub struct Lent<T> {
     guard: T,
 }
 
+/// A pointer and its number of items, as a call is given them.
+pub type Part<T> = (*mut T, usize);
+
 impl<T: Copy + PartialEq + Debug> Lent<T> {
     pub fn new(items: &[T], guard: T) -> Lent<T> {
         let mut all = vec![guard; items.len() + 2 * GUARD];
@@ -23,6 +26,10 @@ impl<T: Copy + PartialEq + Debug> Lent<T> {
 
     pub fn count(&self) -> usize {
         self.all.len() - 2 * GUARD
+    }
+
+    pub fn part(&mut self) -> Part<T> {
+        (self.pointer(), self.count())
     }
 
     pub fn items(&self) -> &[T] {

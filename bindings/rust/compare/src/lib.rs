@@ -3,6 +3,8 @@
 pub mod calls;
 pub mod fault_jobs;
 pub mod jobs;
+pub mod layer_jobs;
+pub mod layers;
 pub mod lent;
 pub mod move_jobs;
 pub mod pictures;
@@ -10,5 +12,6 @@ pub mod random;
 pub mod screen_jobs;
 pub mod screens;
 pub mod seen;
+mod seen_layers;
 pub mod states;
 pub mod timing;

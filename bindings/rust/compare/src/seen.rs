@@ -1,10 +1,12 @@
-//! How often each reply, each kind of call, each place that is told and each kind of line was reached.
+//! How often each reply, each kind of call, each place that is told, each kind of line and each order of layers was reached.
 
 use crate::calls::Told;
+use crate::seen_layers::{refused_for, Dots};
 use crate::states::{faults, INK_MASKS, PALETTES};
+use model::layers::Stack;
 use model::reply::{BAD_FIELD, DONE, WRONG_COUNT, WRONG_VERSION};
 use model::ula::{colouring, Colouring};
-use model::{read_old, ula_mode, Mode, State, OLD_RECORD_LENGTH, RECORD_LENGTH};
+use model::{read_old, ula_mode, LentLines, Mode, State, OLD_RECORD_LENGTH, RECORD_LENGTH};
 use std::collections::BTreeMap;
 use std::fmt::Write;
 
@@ -21,6 +23,7 @@ pub enum Call {
     ReadRegister,
     ReadPort,
     Draw,
+    DrawLayers,
     ReadScr,
     WriteScr,
     ScreenValue,
@@ -30,7 +33,7 @@ pub enum Call {
 
 /// The replies that each call can give. No call gives 4: an unlawful state can only come in a record, and such a record
 /// is 18.
-const POSSIBLE: [(Call, &[u8]); 15] = [
+const POSSIBLE: [(Call, &[u8]); 16] = [
     (Call::Reset, &[0, 3]),
     (Call::CheckRecord, &[0, 16, 17, 18]),
     (Call::MoveUp, &[0, 3, 16, 17, 18]),
@@ -41,6 +44,10 @@ const POSSIBLE: [(Call, &[u8]); 15] = [
     (Call::ReadRegister, &[0, 9, 16, 17, 18]),
     (Call::ReadPort, &[0, 9, 16, 17, 18]),
     (Call::Draw, &[0, 1, 2, 3, 5, 6, 7, 8, 16, 17, 18]),
+    (
+        Call::DrawLayers,
+        &[0, 1, 2, 3, 5, 6, 7, 8, 16, 17, 18, 19, 20],
+    ),
     (Call::ReadScr, &[0, 2, 14, 16, 17, 18]),
     (Call::WriteScr, &[0, 2, 3, 14, 16, 17, 18]),
     (Call::ScreenValue, &[0, 10]),
@@ -48,9 +55,9 @@ const POSSIBLE: [(Call, &[u8]); 15] = [
     (Call::Fewest, &[0, 3, 11]),
 ];
 
-/// The replies are 0 to 18, but for 13, which is retired.
+/// The replies are 0 to 20, but for 13, which is retired.
 fn replies() -> impl Iterator<Item = u8> {
-    (0..=18).filter(|&reply| reply != 13)
+    (0..=20).filter(|&reply| reply != 13)
 }
 
 /// The calls that tell a place, each with the length of a record whose fields it judges.
@@ -75,12 +82,13 @@ fn places(length: usize) -> Vec<usize> {
 /// Kinds of a call. Of a screen file: its form, by mode and colours, what a refusal by 14 was for, or what the state was
 /// besides. Of an old record: that it was taken, or refused for its version. Of a record of version 2: why it was not
 /// moved. Of bytes that are no record: what was wrong with their number or version. Of a line: that its mode was scrolled
-/// otherwise than the others.
-const KINDS: [(Call, &str); 56] = [
+/// otherwise than the others. Of lent layers: that one line was both, or what a refusal was for.
+const KINDS: [(Call, &str); 68] = [
     (Call::CheckRecord, OLD),
     (Call::ReadRegister, OLD),
     (Call::ReadPort, OLD),
     (Call::Draw, OLD),
+    (Call::DrawLayers, OLD),
     (Call::WriteScr, OLD),
     (Call::NextFrame, OLD_REFUSED),
     (Call::WriteRegister, OLD_REFUSED),
@@ -111,6 +119,17 @@ const KINDS: [(Call, &str); 56] = [
     (Call::Draw, "mode 2 with two scrolls"),
     (Call::Draw, "mode 6 with two scrolls"),
     (Call::Draw, "LoRes with two scrolls"),
+    (Call::DrawLayers, "one line as both"),
+    (Call::DrawLayers, "3 for Layer 2 alone"),
+    (Call::DrawLayers, "3 for the sprites alone"),
+    (Call::DrawLayers, "3 for the line written alone"),
+    (Call::DrawLayers, "19 for 110"),
+    (Call::DrawLayers, "19 for 111"),
+    (Call::DrawLayers, "19 before 20"),
+    (Call::DrawLayers, "20 for Layer 2 alone"),
+    (Call::DrawLayers, "20 for the sprites alone"),
+    (Call::DrawLayers, "20 for a sprite's priority alone"),
+    (Call::DrawLayers, "20 for what is hidden"),
     (Call::ReadScr, "mode 0"),
     (Call::ReadScr, "mode 0 with colours"),
     (Call::ReadScr, "mode 2"),
@@ -227,6 +246,8 @@ pub struct Seen {
     kinds: BTreeMap<(Call, &'static str), u64>,
     /// The places that 18 told, by the call and the record's length.
     places: BTreeMap<(Call, usize, usize), u64>,
+    /// The dots of layered lines.
+    dots: Dots,
 }
 
 impl Seen {
@@ -339,6 +360,21 @@ impl Seen {
         self.kind(Call::WriteScr, what);
     }
 
+    /// The dots of a layered line that was drawn, and whether one line was lent as both.
+    pub fn layers_drawn(&mut self, state: &State, one: bool, dots: impl Iterator<Item = Stack>) {
+        if one {
+            self.kind(Call::DrawLayers, "one line as both");
+        }
+        self.dots.line(state, dots);
+    }
+
+    /// A layered line of so many dots that was refused.
+    pub fn layers_refused(&mut self, reply: u8, state: &State, lent: LentLines, length: usize) {
+        for what in refused_for(reply, state, lent, length) {
+            self.kind(Call::DrawLayers, what);
+        }
+    }
+
     pub fn add(&mut self, other: &Seen) {
         for (&key, count) in &other.replies {
             *self.replies.entry(key).or_default() += count;
@@ -355,6 +391,7 @@ impl Seen {
         for (&key, count) in &other.places {
             *self.places.entry(key).or_default() += count;
         }
+        self.dots.add(&other.dots);
     }
 
     fn calls_of(&self, kind: (Call, &'static str)) -> u64 {
@@ -404,6 +441,7 @@ impl Seen {
         }
         missing.extend(self.missing_places());
         missing.extend(self.missing_lines());
+        missing.extend(self.dots.missing());
         missing
     }
 
@@ -454,7 +492,7 @@ impl Seen {
             let lines = self.lines_under(mask);
             let _ = writeln!(text, "ULANext, mask {mask}: {lines} lines");
         }
-        text + &self.line_report()
+        text + &self.line_report() + &self.dots.report()
     }
 
     fn place_report(&self) -> String {

@@ -38,17 +38,17 @@ fn figures(times: &mut [f64]) -> Figures {
     }
 }
 
-/// One line of a table: Narephon beside a plain Rust implementation, with the greatest ratio aimed at.
+/// One line of a table: what is measured beside another that does the same or less, with the greatest ratio aimed at.
 pub struct Row {
     pub what: String,
-    pub narephon: Figures,
-    pub fast: Figures,
+    pub measured: Figures,
+    pub other: Figures,
     pub target: Option<f64>,
 }
 
 impl Row {
     fn ratio(&self) -> f64 {
-        self.narephon.median / self.fast.median
+        self.measured.median / self.other.median
     }
 
     fn line(&self) -> String {
@@ -59,12 +59,12 @@ impl Row {
         format!(
             "| {} | {:.2} | {:.2} | {:.2} | {:.2} | {:.2} | {:.2} | {} |",
             self.what,
-            self.narephon.median,
-            self.narephon.least,
-            self.fast.median,
-            self.fast.least,
+            self.measured.median,
+            self.measured.least,
+            self.other.median,
+            self.other.least,
             self.ratio(),
-            self.narephon.least / self.fast.least,
+            self.measured.least / self.other.least,
             target
         )
     }
@@ -74,11 +74,12 @@ impl Row {
     }
 }
 
-/// Prints the rows as a Markdown table, and which of them miss their target by the median.
-pub fn print_table(title: &str, rows: &[Row]) {
+/// Prints the rows as a Markdown table, with the names of what is measured and of the other, and which of them miss their
+/// target by the median.
+pub fn print_table(title: &str, [measured, other]: [&str; 2], rows: &[Row]) {
     println!("\n### {title}\n");
     println!(
-        "| what | Narephon median µs | min µs | fast median µs | min µs | ratio of medians | ratio of minima | target |"
+        "| what | {measured} median µs | min µs | {other} median µs | min µs | ratio of medians | ratio of minima | target |"
     );
     println!("|---|---:|---:|---:|---:|---:|---:|---:|");
     for row in rows {

@@ -17,22 +17,36 @@ pub fn draw(line: u32, ula: &[u8], tile: &[u8], state: &State, out: &mut [u16]) 
         return reply;
     }
     for (dot, colour) in out.iter_mut().enumerate() {
-        *colour = dot_colour(line, dot as u32, ula, tile, state);
+        let composed = composed_dot(line, dot as u32, ula, tile, state);
+        *colour = composed.unwrap_or(fallback(state));
     }
     DONE
 }
 
 /// Rule 10.1: the refusals of a drawing, in the order 1, 2, 3, 4, 6, 7, 5, 8.
 fn refusal(line: u32, ula: &[u8], tile: &[u8], state: &State, out: &[u16]) -> Reply {
+    match lengths_refusal(line, ula, tile, &[out]) {
+        DONE => state_refusal(state),
+        reply => reply,
+    }
+}
+
+/// Rules 10.1 and 10.13: 1, 2, 3 in this order, 3 for each of the lines of dots.
+pub(crate) fn lengths_refusal(line: u32, ula: &[u8], tile: &[u8], dots: &[&[u16]]) -> Reply {
     if line > 255 {
         return LINE_ABOVE_255;
     }
     if ula.len() != BANK_LENGTH || tile.len() != BANK_LENGTH {
         return WRONG_BANK;
     }
-    if out.len() != DOTS {
+    if dots.iter().any(|dots| dots.len() != DOTS) {
         return WRONG_BUFFER;
     }
+    DONE
+}
+
+/// Rules 10.1 and 10.13: 4, 6, 7, 5, 8 in this order.
+pub(crate) fn state_refusal(state: &State) -> Reply {
     if !lawful(state) {
         return NOT_LAWFUL;
     }
@@ -51,20 +65,30 @@ fn refusal(line: u32, ula: &[u8], tile: &[u8], state: &State, out: &[u16]) -> Re
     DONE
 }
 
-/// Rules 5.11 to 5.13: a dot of the line, the fallback where it is transparent.
-fn dot_colour(line: u32, dot: u32, ula: &[u8], tile: &[u8], state: &State) -> u16 {
+/// Rule 5.13: the colour where all is transparent.
+pub(crate) fn fallback(state: &State) -> u16 {
+    widen(state.fallback)
+}
+
+/// Rules 5.11 and 5.12: a dot of ULA and tilemap, none where it is transparent.
+pub(crate) fn composed_dot(
+    line: u32,
+    dot: u32,
+    ula: &[u8],
+    tile: &[u8],
+    state: &State,
+) -> Option<u16> {
     let ula_colour = ula_dot(line, dot, ula, state);
     let tile_dot = tile_dot(line, dot, tile, state);
     let stencil = state.stencil() && state.ula_on() && state.tilemap_on();
-    let composed = if stencil {
+    if stencil {
         stencilled(ula_colour, tile_dot.colour)
     } else if tile_dot.bit_8 {
         // 5.12: bit 8 puts the ULA over the tile.
         upper_or_lower(ula_colour, tile_dot.colour)
     } else {
         upper_or_lower(tile_dot.colour, ula_colour)
-    };
-    composed.unwrap_or(widen(state.fallback))
+    }
 }
 
 /// Rule 5.11: both dots under the stencil.

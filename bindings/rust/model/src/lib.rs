@@ -4,8 +4,8 @@
 //! It is written from document 01, the scope paper, alone (with the tilemap
 //! page where that paper leaves bits to it) and not from the Rattle code; screen
 //! files are from their request and the page on ULAplus, the second scroll and
-//! the second version of a record from theirs, and what is wrong with a record
-//! from its own. The comments cite the rules by the numbers that docs/RULES.md
+//! the second version of a record from theirs, what is wrong with a record from
+//! its own, and lent layers from theirs. The comments cite the rules by the numbers that docs/RULES.md
 //! gives them. A request that comes later extends the model from its paper
 //! alone, before the code is looked at.
 //!
@@ -15,6 +15,7 @@
 pub mod colour;
 pub mod drawing;
 mod fields;
+pub mod layers;
 pub mod packing;
 pub mod record;
 pub mod registers;
@@ -27,6 +28,7 @@ pub mod ula;
 
 pub use colour::{plus_colour, screen_value, widen};
 pub use drawing::draw;
+pub use layers::{draw_layers, LentLines};
 pub use packing::{draws, draws_at, fewest, pack};
 pub use record::{
     move_back, move_up, read_new, read_old, read_record, write_record, OLD_RECORD_LENGTH,

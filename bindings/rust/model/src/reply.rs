@@ -1,6 +1,6 @@
 //! The reply numbers of section 9: rule 9.N says when reply N comes.
 
-/// A reply is a plain number, 0 to 18 without 13, which is retired.
+/// A reply is a plain number, 0 to 20 without 13, which is retired.
 pub type Reply = u8;
 
 /// Rule 9.0: nothing is refused.
@@ -39,3 +39,7 @@ pub const WRONG_COUNT: Reply = 16;
 pub const WRONG_VERSION: Reply = 17;
 /// Rule 9.18: a record of a state that breaks 3.31.
 pub const BAD_FIELD: Reply = 18;
+/// Rule 9.19: an order of layers that is none.
+pub const NO_ORDER: Reply = 19;
+/// Rule 9.20: a number that is no dot of a lent line.
+pub const BAD_DOT: Reply = 20;

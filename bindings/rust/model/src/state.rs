@@ -16,7 +16,7 @@ pub struct State {
     pub peripheral: u8,
     /// $14: transparent colour.
     pub transparent: u8,
-    /// $15: LoRes, by bit 7.
+    /// $15: LoRes, by bit 7, and the order of the layers, by bits 4-2.
     pub layers: u8,
     /// $1A: ULA clip X1, X2, Y1, Y2.
     pub ula_clip: [u8; 4],

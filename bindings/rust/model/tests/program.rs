@@ -135,6 +135,35 @@ fn one_line(ground: [u8; 3], line: usize, dots: std::ops::Range<usize>, mark: [u
     ppm
 }
 
+/// A file of 256 lines of a layer: transparent, but for one number.
+fn layer(name: &str, line: usize, dot: usize, number: u16) -> PathBuf {
+    let mut numbers = vec![512u16; 256 * 640];
+    numbers[line * 640 + dot] = number;
+    let bytes: Vec<u8> = numbers.iter().flat_map(|dot| dot.to_be_bytes()).collect();
+    file(name, &bytes)
+}
+
+/// Black, and in the last dot of line 255 a red sprite over Layer 2's blue.
+#[test]
+fn layers() {
+    let record = file("layers_record", &reset_record());
+    let bank = file("layers_bank", &[0; 16_384]);
+    let layer2 = layer("layers_layer2", 255, 639, 7);
+    let sprites = layer("layers_sprites", 255, 639, 448);
+    let files = [&record, &bank, &bank, &layer2, &sprites];
+    let expected = one_line([0, 0, 0], 255, 639..640, [255, 0, 0]);
+    assert!(run_bytes(&["picture"], &files) == (expected, true));
+    let (text, well) = run(&["lines"], &files);
+    // 448 is the bytes 1 and 192: the low sum ends at 194, the high one at 1,278 + 2 + 194.
+    let expected = "0 05000001\n".repeat(255) + "0 05c200c2\n";
+    assert_eq!((text, well), (expected, true));
+    let bad = layer("layers_bad", 0, 0, 513);
+    let (text, _) = run(&["lines"], &[&record, &bank, &bank, &bad, &sprites]);
+    assert!(text.starts_with("20 -\n0 05000001\n"));
+    let short = [&record, &bank, &bank, &bank, &sprites];
+    assert_eq!(complaints(&["lines"], &short), 1);
+}
+
 /// A screen file alone has the standard colours and a black border: yellow ink
 /// in the last column of the top row, and each of the sixteen as paper.
 #[test]

@@ -54,6 +54,11 @@ pub const DEFINITIONS: usize = 8192;
 /// Bytes of the longest screen file, and of the buffer that one is written into.
 pub const SCREEN: usize = 12353;
 
+/// The number of a transparent dot in a line lent to [`draw_layers`].
+pub const TRANSPARENT: u16 = 512;
+/// What is added to the colour of a Layer 2 dot that has priority.
+pub const PRIORITY: u16 = 1024;
+
 /// The record of the reset state.
 pub fn reset() -> [u8; RECORD] {
     let mut record = [0; RECORD];
@@ -207,6 +212,59 @@ pub fn draw(
             ula.len(),
             tile.as_ptr(),
             tile.len(),
+            line,
+            dots.as_mut_ptr(),
+            dots.len(),
+        )
+    };
+    answered(reply, ())
+}
+
+/// Draws a line as [`draw`] does, with two finished lines of the caller's composed into it: Layer 2's and the sprites',
+/// [`DOTS`] numbers each. A number is a colour, 0 to 511, or [`TRANSPARENT`]; in `layer2` also a colour + [`PRIORITY`].
+///
+/// Register `0x15` bits 4 to 2 are the order from the top, S the sprites, L Layer 2, U the ULA and the tilemap together: 000
+/// SLU, 001 LSU, 010 SUL, 011 LUS, 100 USL, 101 ULS. The topmost dot that is not transparent shows, or the fallback colour
+/// where there is none; a Layer 2 dot with priority shows in every order. Register `0x14` makes no dot of the two lines
+/// transparent.
+///
+/// Refused by 1, 2, 3, 16, 17, 18, 6, 7, 5, 8, 19 or 20, it leaves `dots` as it was. Every number of the two lines is
+/// judged, a hidden one too.
+///
+/// ```
+/// use narephon::{DOTS, PRIORITY, TRANSPARENT};
+/// let (record, bank) = (narephon::reset(), [0; narephon::BANK]);
+/// let (mut layer2, mut sprites) = ([TRANSPARENT; DOTS], [TRANSPARENT; DOTS]);
+/// (layer2[0], sprites[0]) = (7, 448);
+/// (layer2[1], sprites[1]) = (7 + PRIORITY, 448);
+/// let mut dots = [0; DOTS];
+/// narephon::draw_layers(&record, &bank, &bank, &layer2, &sprites, 0, &mut dots)?;
+/// // After a reset the sprites are the topmost layer.
+/// assert_eq!(dots[..2], [448, 7]);
+/// # Ok::<(), narephon::Reply>(())
+/// ```
+pub fn draw_layers(
+    record: &[u8],
+    ula: &[u8],
+    tile: &[u8],
+    layer2: &[u16],
+    sprites: &[u16],
+    line: u32,
+    dots: &mut [u16],
+) -> Result<(), Reply> {
+    // SAFETY: as in `draw`.
+    let reply = unsafe {
+        raw::narephon_draw_layers(
+            record.as_ptr(),
+            record.len(),
+            ula.as_ptr(),
+            ula.len(),
+            tile.as_ptr(),
+            tile.len(),
+            layer2.as_ptr(),
+            layer2.len(),
+            sprites.as_ptr(),
+            sprites.len(),
             line,
             dots.as_mut_ptr(),
             dots.len(),

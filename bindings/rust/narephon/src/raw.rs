@@ -45,6 +45,21 @@ extern "C" {
         dots: *mut u16,
         dots_len: usize,
     ) -> u8;
+    pub fn narephon_draw_layers(
+        record: *const u8,
+        record_len: usize,
+        ula: *const u8,
+        ula_len: usize,
+        tile: *const u8,
+        tile_len: usize,
+        layer2: *const u16,
+        layer2_len: usize,
+        sprites: *const u16,
+        sprites_len: usize,
+        line: u32,
+        dots: *mut u16,
+        dots_len: usize,
+    ) -> u8;
     pub fn narephon_read_scr(
         record: *mut u8,
         record_len: usize,

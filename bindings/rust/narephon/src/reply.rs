@@ -43,12 +43,16 @@ pub enum Reply {
     WrongVersion,
     /// 18: a field of the record is out of its bounds.
     BadField,
+    /// 19: $15 bits 4-2 are 110 or 111, which is no order of the layers.
+    NoOrder,
+    /// 20: a number of the Layer 2 line or of the sprite line is not allowed.
+    BadDot,
     /// Any other number: the library is of another version than this wrapper.
     Unknown(u8),
 }
 
 /// The replies with a number of their own.
-const KNOWN: [Reply; 17] = [
+const KNOWN: [Reply; 19] = [
     Reply::NoLine,
     Reply::BankLength,
     Reply::BufferLength,
@@ -66,6 +70,8 @@ const KNOWN: [Reply; 17] = [
     Reply::WrongCount,
     Reply::WrongVersion,
     Reply::BadField,
+    Reply::NoOrder,
+    Reply::BadDot,
 ];
 
 impl Reply {
@@ -89,6 +95,8 @@ impl Reply {
             Reply::WrongCount => 16,
             Reply::WrongVersion => 17,
             Reply::BadField => 18,
+            Reply::NoOrder => 19,
+            Reply::BadDot => 20,
             Reply::Unknown(number) => number,
         }
     }
@@ -121,6 +129,10 @@ impl Reply {
                 "the record's version is not read here, or is not the one of its length"
             }
             Reply::BadField => "a field of the record is out of its bounds",
+            Reply::NoOrder => "$15 bits 4-2 are 110 or 111, which is no order of the layers",
+            Reply::BadDot => {
+                "a number of the Layer 2 line or of the sprite line is not allowed"
+            }
             Reply::Unknown(_) => {
                 "a reply that this wrapper does not know: the library is of another version"
             }
@@ -210,7 +222,7 @@ mod tests {
         for number in 1..=255 {
             let reply = answered(number, 5).expect_err("a refusal");
             assert_eq!(reply.number(), number);
-            let known = number <= 18 && number != 13;
+            let known = number <= 20 && number != 13;
             assert_eq!(reply != Reply::Unknown(number), known);
         }
     }

@@ -241,6 +241,96 @@ fn lines_and_screen_values() {
     assert_eq!(narephon::screen_value(512), Err(Reply::OutOfBounds));
 }
 
+/// Reset but for $15 and for a red border, on a line whose display is clipped away: of ULA and tilemap, dots 0 to 63 are
+/// 448 and dots 64 to 575 transparent. The fallback is green, 56.
+fn layered(control: u8) -> [u8; narephon::RECORD] {
+    let colours = [(0x40, 16), (0x41, 0xE0), (0x4A, 0x1C)];
+    let others = [(0x1A, 255), (0x1A, 0), (0x15, control)];
+    written(&[colours, others].concat())
+}
+
+/// Layer 2's line and the sprites', transparent but for the dots given.
+fn lent(dots: &[(usize, u16, u16)]) -> [[u16; narephon::DOTS]; 2] {
+    let mut lines = [[narephon::TRANSPARENT; narephon::DOTS]; 2];
+    for &(place, layer2, sprite) in dots {
+        (lines[0][place], lines[1][place]) = (layer2, sprite);
+    }
+    lines
+}
+
+/// Line 32 by such a record, or by the old one of it.
+fn draw_layered(
+    record: &[u8],
+    lines: &[[u16; narephon::DOTS]; 2],
+    dots: &mut [u16],
+) -> Result<(), Reply> {
+    let bank = [0; narephon::BANK];
+    narephon::draw_layers(record, &bank, &bank, &lines[0], &lines[1], 32, dots)
+}
+
+const NONE: u16 = narephon::TRANSPARENT;
+const PRIORITY: u16 = narephon::PRIORITY;
+
+/// What shows in each of the orders SLU, LSU, SUL, LUS, USL and ULS.
+#[test]
+fn orders_of_layers() {
+    let table = [
+        ((0, 7, 9), [9, 7, 9, 7, 448, 448]),
+        ((1, 7, NONE), [7, 7, 448, 7, 448, 448]),
+        ((2, NONE, 9), [9, 9, 9, 448, 448, 448]),
+        ((3, NONE, NONE), [448; 6]),
+        ((4, 7 + PRIORITY, 9), [7; 6]),
+        ((64, 7, 9), [9, 7, 9, 7, 9, 7]),
+        ((65, 7, NONE), [7; 6]),
+        ((66, NONE, 9), [9; 6]),
+        ((67, NONE, NONE), [56; 6]),
+        ((575, PRIORITY, 511), [0; 6]),
+        ((639, 511 + PRIORITY, NONE), [511; 6]),
+    ];
+    let lines = lent(&table.map(|(dots, _)| dots));
+    for order in 0..6 {
+        let record = layered((order * 4) as u8);
+        for record in [&record[..], &old_of(&record)] {
+            let mut dots = [1; narephon::DOTS];
+            assert_eq!(draw_layered(record, &lines, &mut dots), Ok(()));
+            for ((place, ..), shown) in table {
+                assert_eq!(dots[place], shown[order], "order {order}, dot {place}");
+            }
+        }
+    }
+}
+
+#[test]
+fn refused_layers() {
+    let mut dots = [1; narephon::DOTS];
+    let none = lent(&[]);
+    for control in [0x18, 0x1C, 0x7B] {
+        let record = layered(control);
+        assert_eq!(draw_layered(&record, &none, &mut dots), Err(Reply::NoOrder));
+        let bad = lent(&[(0, 513, 513)]);
+        assert_eq!(draw_layered(&record, &bad, &mut dots), Err(Reply::NoOrder));
+    }
+    let record = layered(0);
+    for bad in [513, 1_023, 1_536, 2_047, u16::MAX] {
+        for lines in [lent(&[(639, bad, 9)]), lent(&[(0, PRIORITY, bad)])] {
+            assert_eq!(draw_layered(&record, &lines, &mut dots), Err(Reply::BadDot));
+        }
+    }
+    let sprite = lent(&[(320, PRIORITY, PRIORITY)]);
+    assert_eq!(
+        draw_layered(&record, &sprite, &mut dots),
+        Err(Reply::BadDot)
+    );
+    let bank = [0; narephon::BANK];
+    for (layer2, sprites, length) in [(639, 640, 640), (640, 639, 640), (640, 640, 639)] {
+        let (layer2, sprites) = (&none[0][..layer2], &none[1][..sprites]);
+        let dots = &mut dots[..length];
+        let short = narephon::draw_layers(&record, &bank, &bank, layer2, sprites, 0, dots);
+        assert_eq!(short, Err(Reply::BufferLength));
+    }
+    assert!(dots == [1; narephon::DOTS]);
+}
+
 #[test]
 fn packings() {
     let mut picture = [0; narephon::PICTURE];

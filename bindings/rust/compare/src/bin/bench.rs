@@ -1,26 +1,36 @@
 //! Narephon measured against plain Rust written for speed, as Markdown tables.
 
+use compare::layers::{layer2, sprites};
 use compare::pictures;
 use compare::random::Random;
 use compare::states::record_of;
 use compare::timing::{interleaved, print_table, Row};
-use model::State;
+use model::{LentLines, State};
 use std::hint::black_box;
 
 const LINES: u32 = 256;
 const DRAWING: f64 = 1.5;
+const LAYERS: f64 = 1.3;
 const PACKING: f64 = 1.5;
 const PACKING_PLAIN: f64 = 0.1;
 
 const HOW: &str = "\
 Both sides are built for release and given the same inputs. Their runs are interleaved, each going first in turn;
 ratios are Narephon to fast. Buffers are reused from run to run and not cleared. Banks are noise, offsets are not 0,
-nothing is clipped. Narephon's calls are given a record each time.";
+nothing is clipped. Narephon's calls are given a record each time. Lent layers are Narephon beside Narephon: a line drawn
+with them to the same line drawn without. They are noise, other in each line: a third of Layer 2 is transparent, a third
+colours, a third colours with priority; half of the sprites is transparent, half colours.";
+
+/// What the tables measure.
+const BESIDE_FAST: [&str; 2] = ["Narephon", "fast"];
+const BESIDE_PLAIN: [&str; 2] = ["draw_layers", "draw"];
 
 fn main() {
     let mut random = Random::new(1);
     println!("{HOW}");
     previews(&mut random);
+    // Noise of its own, so that what the other tables are given stays.
+    layers(&mut Random::new(2));
     records(&mut random);
     packings(&mut random);
 }
@@ -60,12 +70,10 @@ fn screens(base: &State) -> Vec<(&'static str, State)> {
     ]
 }
 
-/// Whole previews, beside fast reading the record once and reading it for each line.
-fn previews(random: &mut Random) {
-    let base = base(random);
-    let banks = [random.bytes(16_384), random.bytes(16_384)];
-    let (mut once, mut each) = (Vec::new(), Vec::new());
-    for (name, screen) in screens(&base) {
+/// The six screens without a tilemap and with one.
+fn screens_and_tiles(base: &State) -> Vec<(String, State)> {
+    let mut all = Vec::new();
+    for (name, screen) in screens(base) {
         for (tiles, control) in [("", 0), (", 40 columns", 0x80), (", 80 columns", 0xC0)] {
             // LoRes beside a tilemap is refused.
             if screen.lores() && control != 0 {
@@ -73,16 +81,30 @@ fn previews(random: &mut Random) {
             }
             let mut state = screen.clone();
             state.tile_control = control;
-            let rows = preview(&format!("{name}{tiles}"), &record_of(&state), &banks);
-            let [first, second] = rows;
-            once.push(first);
-            each.push(second);
+            all.push((format!("{name}{tiles}"), state));
         }
     }
+    all
+}
+
+/// Whole previews, beside fast reading the record once and reading it for each line.
+fn previews(random: &mut Random) {
+    let base = base(random);
+    let banks = [random.bytes(16_384), random.bytes(16_384)];
+    let (mut once, mut each) = (Vec::new(), Vec::new());
+    for (what, state) in screens_and_tiles(&base) {
+        let [first, second] = preview(&what, &record_of(&state), &banks);
+        once.push(first);
+        each.push(second);
+    }
     let title = "A whole preview, 256 lines";
-    print_table(&format!("{title}; fast reads the record once"), &once);
+    print_table(
+        &format!("{title}; fast reads the record once"),
+        BESIDE_FAST,
+        &once,
+    );
     let title = format!("{title}; fast reads the record for each line, as the exported call does");
-    print_table(&title, &each);
+    print_table(&title, BESIDE_FAST, &each);
 }
 
 /// A picture of 256 lines, each drawn into its own part.
@@ -99,6 +121,25 @@ impl Picture {
             assert_eq!(drawn, Ok(()));
         }
         black_box(&self.0);
+    }
+
+    fn layered(&mut self, record: &[u8], banks: &[Vec<u8>; 2], lent: &Lent) {
+        for (line, dots) in (0..LINES).zip(self.0.chunks_exact_mut(narephon::DOTS)) {
+            let LentLines { layer2, sprites } = lent.line(line);
+            let record = black_box(record);
+            let [ula, tile] = banks;
+            let drawn = narephon::draw_layers(record, ula, tile, layer2, sprites, line, dots);
+            assert_eq!(drawn, Ok(()));
+        }
+        black_box(&self.0);
+    }
+
+    fn modelled(&mut self, state: &State, banks: &[Vec<u8>; 2], lent: &Lent) {
+        for (line, dots) in (0..LINES).zip(self.0.chunks_exact_mut(narephon::DOTS)) {
+            let lines = lent.line(line);
+            let reply = model::draw_layers(line, &banks[0], &banks[1], lines, state, dots);
+            assert_eq!(reply, 0);
+        }
     }
 
     fn fast_once(&mut self, record: &[u8], banks: &[Vec<u8>; 2]) {
@@ -135,10 +176,76 @@ fn preview(what: &str, record: &[u8], banks: &[Vec<u8>; 2]) -> [Row; 2] {
     assert!(ours.0 == once.0 && ours.0 == each.0, "{what} differs");
     [times[1], times[2]].map(|fast| Row {
         what: what.to_string(),
-        narephon: times[0],
-        fast,
+        measured: times[0],
+        other: fast,
         target: Some(DRAWING),
     })
+}
+
+/// Two lent lines for each of a picture's.
+struct Lent {
+    layer2: Vec<u16>,
+    sprites: Vec<u16>,
+}
+
+impl Lent {
+    fn new(random: &mut Random) -> Lent {
+        Lent {
+            layer2: (0..LINES).flat_map(|_| layer2(random)).collect(),
+            sprites: (0..LINES).flat_map(|_| sprites(random)).collect(),
+        }
+    }
+
+    fn line(&self, line: u32) -> LentLines<'_> {
+        let start = line as usize * narephon::DOTS;
+        let end = start + narephon::DOTS;
+        LentLines {
+            layer2: &self.layer2[start..end],
+            sprites: &self.sprites[start..end],
+        }
+    }
+}
+
+/// Whole previews with lent layers, beside the same without: every screen in the first order, and one in every order.
+fn layers(random: &mut Random) {
+    let base = base(random);
+    let banks = [random.bytes(16_384), random.bytes(16_384)];
+    let lent = Lent::new(random);
+    let row = |(what, state): (String, State)| layered(&what, &state, &banks, &lent);
+    let rows: Vec<Row> = screens_and_tiles(&base).into_iter().map(row).collect();
+    let title = "Lent layers: a whole preview, 256 lines";
+    print_table(&format!("{title}; order 000, SLU"), BESIDE_PLAIN, &rows);
+    let orders = [
+        "000, SLU", "001, LSU", "010, SUL", "011, LUS", "100, USL", "101, ULS",
+    ];
+    let in_order = (0..).zip(orders).map(|(bits, name)| {
+        let mut state = base.clone();
+        state.layers = bits * 4;
+        (format!("mode 0, order {name}"), state)
+    });
+    let rows: Vec<Row> = in_order.map(row).collect();
+    print_table(&format!("{title}; in each order"), BESIDE_PLAIN, &rows);
+}
+
+fn layered(what: &str, state: &State, banks: &[Vec<u8>; 2], lent: &Lent) -> Row {
+    let record = record_of(state);
+    let mut pictures = [Picture::new(), Picture::new(), Picture::new()];
+    let [with, without, wanted] = &mut pictures;
+    let times = interleaved(
+        150,
+        1,
+        &mut [&mut || with.layered(&record, banks, lent), &mut || {
+            without.narephon(&record, banks)
+        }],
+    );
+    wanted.modelled(state, banks, lent);
+    assert!(with.0 == wanted.0, "{what} differs");
+    Row {
+        what: what.to_string(),
+        measured: times[0],
+        other: times[1],
+        target: Some(LAYERS),
+    }
 }
 
 /// Fast doing what an exported write does: a record read, changed and written.
@@ -157,7 +264,11 @@ fn records(random: &mut Random) {
         frame_row(random),
         bad_colour_row(random),
     ];
-    print_table("A register write, a record read and written", &rows);
+    print_table(
+        "A register write, a record read and written",
+        BESIDE_FAST,
+        &rows,
+    );
 }
 
 /// Another colour each time, so the index moves on.
@@ -186,8 +297,8 @@ fn write_row(random: &mut Random, what: &str, keeps: bool) -> Row {
     assert!(record == other, "{what} differs");
     Row {
         what: what.to_string(),
-        narephon: times[0],
-        fast: times[1],
+        measured: times[0],
+        other: times[1],
         target: None,
     }
 }
@@ -206,8 +317,8 @@ fn frame_row(random: &mut Random) -> Row {
     assert!(record == other, "next frame differs");
     Row {
         what: "next frame: a record read, changed and written".to_string(),
-        narephon: times[0],
-        fast: times[1],
+        measured: times[0],
+        other: times[1],
         target: None,
     }
 }
@@ -225,8 +336,8 @@ fn bad_colour_row(random: &mut Random) -> Row {
     let times = interleaved(150, 500, &mut [&mut ours, &mut fast]);
     Row {
         what: "a record judged whose last colour is bad".to_string(),
-        narephon: times[0],
-        fast: times[1],
+        measured: times[0],
+        other: times[1],
         target: None,
     }
 }
@@ -257,13 +368,19 @@ fn packings(random: &mut Random) {
     }
     print_table(
         "A packing; fast finds a cell's tile by its key, as Narephon does by its mark",
+        BESIDE_FAST,
         &chained,
     );
     print_table(
         "A packing; fast looks through the keys of all tiles",
+        BESIDE_FAST,
         &skipping,
     );
-    print_table("A packing; fast compares each cell with each tile", &plain);
+    print_table(
+        "A packing; fast compares each cell with each tile",
+        BESIDE_FAST,
+        &plain,
+    );
 }
 
 /// A packing's buffers and what came of it.
@@ -316,8 +433,8 @@ fn packing(what: &str, picture: &[u8]) -> [Row; 3] {
     let targets = [Some(PACKING), Some(PACKING_PLAIN), Some(PACKING)];
     [0, 1, 2].map(|k| Row {
         what: what.to_string(),
-        narephon: times[0],
-        fast: times[k + 1],
+        measured: times[0],
+        other: times[k + 1],
         target: targets[k],
     })
 }

@@ -4,8 +4,8 @@ use model::record::writes_back;
 use model::reply::{Reply, DONE, NO_SUCH_REGISTER};
 use model::sums::dots_sum;
 use model::{
-    draw, next_frame, pack, read_port, read_record, read_register, read_scr, screen_value, widen,
-    write_port, write_register, State, BANK_LENGTH, DOTS,
+    draw, draw_layers, next_frame, pack, read_port, read_record, read_register, read_scr,
+    screen_value, widen, write_port, write_register, LentLines, State, BANK_LENGTH, DOTS,
 };
 use std::env::args;
 use std::fs::read;
@@ -14,8 +14,8 @@ use std::process::ExitCode;
 
 const USAGE: &str = "usage: model script FILE
        model record FILE
-       model lines RECORD ULABANK TILEBANK
-       model picture RECORD ULABANK TILEBANK
+       model lines RECORD ULABANK TILEBANK [LAYER2 SPRITES]
+       model picture RECORD ULABANK TILEBANK [LAYER2 SPRITES]
        model screen [RECORD] SCREEN
        model pack FILE";
 
@@ -42,7 +42,13 @@ fn answer(words: &[&str]) -> Result<Vec<u8>, String> {
         ["script", file] => script(&load(file)?)?,
         ["record", file] => record(&load(file)?),
         ["lines", record, ula, tile] => lines(&screen(record, ula, tile)?),
+        ["lines", record, ula, tile, layer2, sprites] => {
+            lines(&screen(record, ula, tile)?.with_layers(layer2, sprites)?)
+        }
         ["picture", record, ula, tile] => return picture(&screen(record, ula, tile)?),
+        ["picture", record, ula, tile, layer2, sprites] => {
+            return picture(&screen(record, ula, tile)?.with_layers(layer2, sprites)?)
+        }
         ["screen", file] => return picture(&shown(file, standard())?),
         ["screen", record, file] => return picture(&shown(file, known(record)?)?),
         ["pack", file] => packing(&load(file)?),
@@ -126,20 +132,63 @@ struct Screen {
     state: State,
     ula: Vec<u8>,
     tile: Vec<u8>,
+    lent: Option<Layers>,
 }
 
 impl Screen {
     fn draw(&self, line: u32) -> (Reply, [u16; DOTS]) {
         let mut dots = [0; DOTS];
-        let reply = draw(line, &self.ula, &self.tile, &self.state, &mut dots);
+        let (ula, tile, state) = (&self.ula, &self.tile, &self.state);
+        let reply = match &self.lent {
+            None => draw(line, ula, tile, state, &mut dots),
+            Some(layers) => draw_layers(line, ula, tile, layers.line(line), state, &mut dots),
+        };
         (reply, dots)
+    }
+
+    /// The same screen with Layer 2 and sprites, from their files.
+    fn with_layers(self, layer2: &str, sprites: &str) -> Result<Screen, String> {
+        let (layer2, sprites) = (numbers(layer2)?, numbers(sprites)?);
+        let lent = Some(Layers { layer2, sprites });
+        Ok(Screen { lent, ..self })
     }
 }
 
+/// The numbers of 256 lines of Layer 2, and of the sprites.
+struct Layers {
+    layer2: Vec<u16>,
+    sprites: Vec<u16>,
+}
+
+impl Layers {
+    fn line(&self, line: u32) -> LentLines<'_> {
+        let start = line as usize * DOTS;
+        LentLines {
+            layer2: &self.layer2[start..start + DOTS],
+            sprites: &self.sprites[start..start + DOTS],
+        }
+    }
+}
+
+/// The numbers in a file of 256 lines, two bytes each, the high one first.
+fn numbers(name: &str) -> Result<Vec<u16>, String> {
+    let bytes = load(name)?;
+    if bytes.len() != 256 * DOTS * 2 {
+        return Err(format!("{name}: 256 lines of a layer are 327,680 bytes"));
+    }
+    let pairs = bytes.chunks_exact(2);
+    Ok(pairs
+        .map(|pair| u16::from_be_bytes([pair[0], pair[1]]))
+        .collect())
+}
+
 fn screen(record: &str, ula: &str, tile: &str) -> Result<Screen, String> {
-    let state = known(record)?;
-    let (ula, tile) = (load(ula)?, load(tile)?);
-    Ok(Screen { state, ula, tile })
+    Ok(Screen {
+        state: known(record)?,
+        ula: load(ula)?,
+        tile: load(tile)?,
+        lent: None,
+    })
 }
 
 /// The state in a file that must be a record.
@@ -159,6 +208,7 @@ fn shown(file: &str, state: State) -> Result<Screen, String> {
             state,
             tile: ula.clone(),
             ula,
+            lent: None,
         }),
         (reply, _, _) => Err(format!("{file}: refused {reply}")),
     }

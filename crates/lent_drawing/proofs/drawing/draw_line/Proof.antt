@@ -4,8 +4,8 @@ use borrow.Author.Needs.{needs}
 use Rattle.lent_drawing.proofs.drawing.draw_line.Statement.{statement}
 use Rattle.lent_drawing.proofs.drawing.draw_line.Tie as tie
 
-lay-layers-requires : tie.Need-lay-layers-requires
-lay-layers-requires c κs = search needs
+composed-record-requires : tie.Need-composed-record-requires
+composed-record-requires c κs = search needs
 
 ula-at-requires : tie.Need-ula-at-requires
 ula-at-requires c κs = search needs
@@ -23,13 +23,13 @@ returns : tie.Need-returns
 returns c =
     let a = c .before .before .before .before .before .before .before .before .before .before .before .before .before .before .args in
     let u = c .before .before .before .before .before .ula-at in
-    line-laid (a .v) (a .bytes .now) (a .ula .now) (a .tile .now) (a .line) _ _ (u .result) _ (c .before .before .before .before .before .before .before .before .lay-layers .ensures) (u .ensures) (c .before .before .before .before .widen .ensures) (c .before .before .finish-line .ensures)
+    line-laid (a .v) (a .bytes .now) (a .ula .now) (a .tile .now) (a .line) _ _ (u .result) _ (c .before .before .before .before .before .before .before .before .composed-record .ensures .0) (u .ensures) (c .before .before .before .before .widen .ensures) (c .before .before .finish-line .ensures)
 
 pub draw-line-spec : {M : Type 1} → statement M
 draw-line-spec =
     tie.close
     (tie.spec
-    lay-layers-requires
+    composed-record-requires
     ula-at-requires
     widen-requires
     finish-line-requires
