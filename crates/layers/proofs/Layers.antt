@@ -41,47 +41,47 @@ lent-met a b d =
 -- ---- the replies
 
 module _ (line : LineNumber) (ula tile out : ℕ) (lent : Reply) (s : State) (layer2 sprites : List ℕ) where
-  abbrev pub early : List Reply
-  early = lineReply line ∷ lengthsReply ula tile out ∷ lentReply (length layer2) (length sprites) ∷ lent ∷ []
+  abbrev pub early-pieces : List Reply
+  early-pieces = lineReply line ∷ lengthsReply ula tile out ∷ lentReply (length layer2) (length sprites) ∷ lent ∷ []
 
-  abbrev pub late : List Reply
-  late = stateReply (s .ula) (s .tiles) (s .palette) (s .ports) ∷ orderReply (s .ula) ∷ numbersReply layer2 sprites ∷ []
+  abbrev pub late-pieces : List Reply
+  late-pieces = stateReply (s .ula) (s .tiles) (s .palette) (s .ports) ∷ orderReply (s .ula) ∷ numbersReply layer2 sprites ∷ []
 
   abbrev reply : Reply
   reply = layeredReply line ula tile out lent s layer2 sprites
 
   -- what the lengths are where nothing is refused early
-  pub lengths-known : firstHit early ≡ Done → (length layer2 ≡ 640) × (length sprites ≡ 640)
-  lengths-known d = lent-met (length layer2) (length sprites) (all-done early d .1 .1 .0)
+  pub lengths-known : firstHit early-pieces ≡ Done → (length layer2 ≡ 640) × (length sprites ≡ 640)
+  lengths-known d = lent-met (length layer2) (length sprites) (all-done early-pieces d .1 .1 .0)
 
-  pub early-met : firstHit early ≡ Done → (isLine line ≡ true) × (ula ≡ 16384) × (tile ≡ 16384) × (out ≡ 640) × (lent ≡ Done)
+  pub early-met : firstHit early-pieces ≡ Done → (isLine line ≡ true) × (ula ≡ 16384) × (tile ≡ 16384) × (out ≡ 640) × (lent ≡ Done)
   early-met d =
-      let m = all-done early d in
+      let m = all-done early-pieces d in
       let q = lengths-met ula tile out (m .1 .0) in
       (line-met line (m .0), q .0, q .1, q .2, m .1 .1 .1 .0)
 
-  pub late-met : firstHit late ≡ Done → (isOrder (layerOrder (s .ula)) ≡ true) × (all (bothAllowed layer2 sprites) 640 ≡ true)
+  pub late-met : firstHit late-pieces ≡ Done → (isOrder (layerOrder (s .ula)) ≡ true) × (all (bothAllowed layer2 sprites) 640 ≡ true)
   unfolding orderReply numbersReply
   late-met d =
-      let m = all-done late d in
+      let m = all-done late-pieces d in
       (test-met (isOrder (layerOrder (s .ula))) Done NoOrder refl (m .1 .0) .0, test-met (all (bothAllowed layer2 sprites) 640) Done BadDot refl (m .1 .1 .0) .0)
 
   -- the reply is what is refused early, or else late
-  pub refused-late : firstHit early ≡ Done → reply ≡ firstHit late
+  pub refused-late : firstHit early-pieces ≡ Done → reply ≡ firstHit late-pieces
   unfolding layeredReply
-  refused-late d = hit-later early late d
+  refused-late d = hit-later early-pieces late-pieces d
 
-  pub refused-early : isDone (firstHit early) ≡ false → reply ≡ firstHit early
+  pub refused-early : isDone (firstHit early-pieces) ≡ false → reply ≡ firstHit early-pieces
   unfolding layeredReply
-  refused-early d = hit-early early late d
+  refused-early d = hit-early early-pieces late-pieces d
 
   -- a drawing that is not refused is refused neither early nor late
-  pub both-met : reply ≡ Done → (firstHit early ≡ Done) × (firstHit late ≡ Done)
-  both-met d = go (isDone (firstHit early)) refl
+  pub both-met : reply ≡ Done → (firstHit early-pieces ≡ Done) × (firstHit late-pieces ≡ Done)
+  both-met d = go (isDone (firstHit early-pieces)) refl
     where
-      go : (b : Bool) → isDone (firstHit early) ≡ b → (firstHit early ≡ Done) × (firstHit late ≡ Done)
-      go true e = let h = is-done (firstHit early) e in (h, sym (refused-late h) ∙ d)
-      go false e = absurd (refused (firstHit early) e (sym (refused-early e) ∙ d))
+      go : (b : Bool) → isDone (firstHit early-pieces) ≡ b → (firstHit early-pieces ≡ Done) × (firstHit late-pieces ≡ Done)
+      go true e = let h = is-done (firstHit early-pieces) e in (h, sym (refused-late h) ∙ d)
+      go false e = absurd (refused (firstHit early-pieces) e (sym (refused-early e) ∙ d))
 
 -- ---- the line
 

@@ -4,7 +4,7 @@ ghost use mathlib.Core.Bool.{true};
 ghost use mathlib.Core.List.{[], _∷_};
 ghost use lib.ListN.{length};
 ghost use Rattle.reply.specs.First.{firstHit};
-ghost use Rattle.state.specs.Lawful.{lawfulState, lawfulReply};
+ghost use Rattle.state.specs.Lawful.{lawfulState};
 ghost use Rattle.surface.specs.Lines.{isLine};
 ghost use Rattle.lists.specs.Search.{all};
 ghost use Rattle.state_bits.specs.Bits.{layerOrder};
@@ -23,22 +23,23 @@ use state::State;
 use state::lawful_reply;
 use surface::LineNumber;
 
-// What refuses before the numbers of the lent lines are looked at: a number is asked for at each of 640 places.
-fn early_reply(
+// What refuses before the numbers of the lent lines are looked at, which both have to be 640 long for: the line, the lengths, and what
+// refuses the state as it is lent.
+pub fn early_reply(
     line: LineNumber,
     ula: usize,
     tile: usize,
     out: usize,
     layer2: usize,
     sprites: usize,
-    s: State,
+    lent: Reply,
 ) -> Reply
-    ensures { λ r. ⌜ r ≡ firstHit (lineReply line ∷ lengthsReply ula tile out ∷ lentReply layer2 sprites ∷ lawfulReply s ∷ []) ⌝ }
+    ensures { λ r. ⌜ r ≡ firstHit (lineReply line ∷ lengthsReply ula tile out ∷ lentReply layer2 sprites ∷ lent ∷ []) ⌝ }
 {
-    let lent = first_of(lent_reply(layer2, sprites), lawful_reply(s));
+    let last = first_of(lent_reply(layer2, sprites), lent);
     first_of(
         line_reply(line),
-        first_of(lengths_reply(ula, tile, out), lent),
+        first_of(lengths_reply(ula, tile, out), last),
     )
 }
 
@@ -54,7 +55,8 @@ fn judge(
 ) -> Reply
     ensures { λ r. ⌜ r ≡ layersReply line ula tile out s (now (layer2 .entry)) (now (sprites .entry)) ⌝ }
 {
-    let early = early_reply(line, ula, tile, out, layer2.len(), sprites.len(), s);
+    let lawful = lawful_reply(s);
+    let early = early_reply(line, ula, tile, out, layer2.len(), sprites.len(), lawful);
     if number(early) == 0 {
         first_of(
             state_reply(s.ula, s.tiles, s.palette, s.ports),

@@ -2,3 +2,4 @@
 mod drawing;
 
 pub use drawing::draw_layers;
+pub use drawing::early_reply;

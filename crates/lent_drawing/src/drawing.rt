@@ -110,7 +110,7 @@ fn draw_judged(
 }
 
 // What refuses a drawing before the state in the record is judged: the line, the lengths, the record.
-pub fn early_reply(line: LineNumber, ula: usize, tile: usize, dots: usize, stored: Reply) -> Reply
+fn early_reply(line: LineNumber, ula: usize, tile: usize, dots: usize, stored: Reply) -> Reply
     ensures { λ r. ⌜ r ≡ firstHit (lineReply line ∷ lengthsReply ula tile dots ∷ stored ∷ []) ⌝ }
 {
     let lengths = line_replies::lengths_reply(ula, tile, dots);

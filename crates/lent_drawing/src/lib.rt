@@ -4,5 +4,4 @@ mod drawing;
 
 pub use drawing::composed_record;
 pub use drawing::draw_record;
-pub use drawing::early_reply;
 pub use drawing::state_judged;

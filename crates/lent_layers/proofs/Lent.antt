@@ -1,16 +1,14 @@
 -- A drawing with lent lines by a lent record: what it has met that is not refused early, and the two exits of the call. `v` is the version
--- that the record's length tells, `stored` the reply to the record, `lent` the one to the lengths of the lent lines before it, and
--- `first` what refuses early.
+-- that the record's length tells, `stored` the reply to the record, `first` what refuses early.
 use Prim.Native.Nat.{ℕ}
-use mathlib.Core.Path.{_≡_, refl, sym, ap, ap₂, _∙_}
+use mathlib.Core.Path.{_≡_, sym, ap, ap₂, _∙_}
 use mathlib.Core.List.{List, [], _∷_}
 use mathlib.Core.Bool.{true, false}
 use lib.ListN.{length}
 use Rattle.reply.specs.Reply.{isDone}
-use Rattle.reply.specs.First.{firstOf, firstHit}
+use Rattle.reply.specs.First.{firstHit}
 use Rattle.reply.specs.declared.Reply.{Reply}
 use Rattle.reply.specs.declared.Reply.the-variants.{Done}
-use Rattle.reply.proofs.Order.{last-hit, next-hit}
 use Rattle.state.specs.declared.State.{State}
 use Rattle.surface.specs.Lines.{isLine}
 use Rattle.surface.specs.declared.lines.LineNumber.{LineNumber}
@@ -24,12 +22,11 @@ use Rattle.line_replies.proofs.Exits.{left}
 use Rattle.layer_dots.specs.Numbers.{lentReply}
 use Rattle.lent_drawing.specs.Bounds.{RecordBounds}
 use Rattle.layers.specs.Layers.{layeredLine}
-use Rattle.layers.proofs.Layers.{early, late, lengths-known, early-met, refused-late, refused-early}
+use Rattle.layers.proofs.Layers.{early-pieces, late-pieces, lengths-known, early-met, refused-late, refused-early}
 use Rattle.lent_layers.specs.Lent.{lentLayersReply, lentLayered}
 
-module _ (line : LineNumber) (ula tile dots b layer2 sprites : List ℕ) (v : Version) (told : v ≡ versionOf (length b)) (lines stored lent first : Reply)
-    (el : lines ≡ lentReply (length layer2) (length sprites)) (es : stored ≡ readAs v b .reply) (ef : lent ≡ firstOf lines stored)
-    (e : first ≡ firstHit (lineReply line ∷ lengthsReply (length ula) (length tile) (length dots) ∷ lent ∷ [])) where
+module _ (line : LineNumber) (ula tile dots b layer2 sprites : List ℕ) (v : Version) (told : v ≡ versionOf (length b)) (stored first : Reply) (es : stored ≡ readAs v b .reply)
+    (e : first ≡ firstHit (early-pieces line (length ula) (length tile) (length dots) stored (stateAs v b) layer2 sprites)) where
   record-is : readAs v b ≡ readRecord b
   unfolding readRecord
   record-is = ap (λ (w : Version). readAs w b) told
@@ -38,19 +35,14 @@ module _ (line : LineNumber) (ula tile dots b layer2 sprites : List ℕ) (v : Ve
   reply-is = ap (λ (a : RecordRead). a .reply) record-is
 
   abbrev pieces : State → List Reply
-  pieces s = early line (length ula) (length tile) (length dots) (readRecord b .reply) s layer2 sprites
+  pieces s = early-pieces line (length ula) (length tile) (length dots) (readRecord b .reply) s layer2 sprites
 
   abbrev after : State → List Reply
-  after s = late line (length ula) (length tile) (length dots) (readRecord b .reply) s layer2 sprites
-
-  -- the lengths of the lent lines are a piece by themselves
-  lent-is : lent ≡ firstHit (lentReply (length layer2) (length sprites) ∷ readRecord b .reply ∷ [])
-  lent-is = next-hit lent lines stored (lentReply (length layer2) (length sprites)) (readRecord b .reply ∷ []) el (last-hit stored (readRecord b .reply) (es ∙ reply-is)) ef
+  after s = late-pieces line (length ula) (length tile) (length dots) (readRecord b .reply) s layer2 sprites
 
   first-is : first ≡ firstHit (pieces (readRecord b .state))
-  unfolding firstHit
   first-is =
-      e ∙ ap (λ (r : Reply). firstOf (lineReply line) (firstOf (lengthsReply (length ula) (length tile) (length dots)) r)) (sym (last-hit lent lent refl) ∙ lent-is)
+      e ∙ ap (λ (r : Reply). firstHit (lineReply line ∷ lengthsReply (length ula) (length tile) (length dots) ∷ lentReply (length layer2) (length sprites) ∷ r ∷ [])) (es ∙ reply-is)
 
   taken : first ≡ Done → accepted v b ≡ true
   taken z =

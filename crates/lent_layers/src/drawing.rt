@@ -14,9 +14,8 @@ ghost use Rattle.lent_drawing.specs.Bounds.{RecordBounds};
 ghost use Rattle.layers.specs.Layers.{layeredLine};
 ghost use Rattle.lent_layers.specs.Lent.{lentLayersReply, lentLayered};
 use layer_dots::layers_reply;
-use layer_dots::lent_reply;
+use layers::early_reply;
 use lent_drawing::composed_record;
-use lent_drawing::early_reply;
 use lent_drawing::state_judged;
 use record_layout::Version;
 use reply::Reply;
@@ -92,11 +91,16 @@ pub fn draw_layers_record(
         × (now (dots .exit) ≡ lentLayered line (now (ula .entry)) (now (tile .entry)) (now (dots .entry)) (now (bytes .entry)) (now (layer2 .entry)) (now (sprites .entry))) ⌝ }
 {
     let v = record_places::version_of(bytes.len());
-    let stored = first_of(
-        lent_reply(layer2.len(), sprites.len()),
-        record::reply_as(bytes, v),
+    let stored = record::reply_as(bytes, v);
+    let early = early_reply(
+        line,
+        ula.len(),
+        tile.len(),
+        dots.len(),
+        layer2.len(),
+        sprites.len(),
+        stored,
     );
-    let early = early_reply(line, ula.len(), tile.len(), dots.len(), stored);
     if number(early) == 0 {
         draw_judged(bytes, v, ula, tile, layer2, sprites, line, dots)
     } else {

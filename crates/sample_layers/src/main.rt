@@ -6,7 +6,7 @@ use asked::ask_lengths;
 use asked::ask_number;
 use asked::ask_order;
 
-// $15 with no order but LoRes off; and with $14 the colour that the screen shows, which then is transparent.
+// $14: a colour that the screen does not have, and the one that it shows, which then is transparent.
 const SHOWN: u8 = 0xE3;
 
 const CLEAR: u8 = 0x1C;

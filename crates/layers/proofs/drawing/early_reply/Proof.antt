@@ -1,4 +1,5 @@
 -- The four pieces in their order.
+use mathlib.Core.Path.{refl}
 use Rattle.reply.proofs.Order.{last-hit, next-hit}
 use borrow.Author.Needs.{needs}
 use Rattle.layers.proofs.drawing.early_reply.Statement.{statement}
@@ -6,9 +7,6 @@ use Rattle.layers.proofs.drawing.early_reply.Tie as tie
 
 lent-reply-requires : tie.Need-lent-reply-requires
 lent-reply-requires c κs = search needs
-
-lawful-reply-requires : tie.Need-lawful-reply-requires
-lawful-reply-requires c κs = search needs
 
 first-of-requires : tie.Need-first-of-requires
 first-of-requires c κs = search needs
@@ -26,15 +24,15 @@ first-of-requires-3 : tie.Need-first-of-requires-3
 first-of-requires-3 c κs = search needs
 
 returns : tie.Need-returns
-returns c = let lent = next-hit _ _ _ _ _ (c .before .before .before .before .before .before .lent-reply .ensures) (last-hit _ _ (c .before .before .before .before .before .lawful-reply .ensures)) (c .before .before .before .before .first-of .ensures) in
-    next-hit _ _ _ _ _ (c .before .before .before .line-reply .ensures) (next-hit _ _ _ _ _ (c .before .before .lengths-reply .ensures) lent (c .before .first-of2 .ensures)) (c .first-of3 .ensures)
+returns c = let lent = c .before .before .before .before .before .before .args .lent in
+    let last = next-hit _ _ _ _ _ (c .before .before .before .before .before .lent-reply .ensures) (last-hit lent lent refl) (c .before .before .before .before .first-of .ensures) in
+    next-hit _ _ _ _ _ (c .before .before .before .line-reply .ensures) (next-hit _ _ _ _ _ (c .before .before .lengths-reply .ensures) last (c .before .first-of2 .ensures)) (c .first-of3 .ensures)
 
 pub early-reply-spec : {M : Type 1} → statement M
 early-reply-spec =
     tie.close
     (tie.spec
     lent-reply-requires
-    lawful-reply-requires
     first-of-requires
     line-reply-requires
     lengths-reply-requires

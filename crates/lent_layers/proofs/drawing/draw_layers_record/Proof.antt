@@ -9,14 +9,8 @@ use Rattle.lent_layers.proofs.drawing.draw_layers_record.Tie as tie
 version-of-requires : tie.Need-version-of-requires
 version-of-requires c κs = search needs
 
-lent-reply-requires : tie.Need-lent-reply-requires
-lent-reply-requires c κs = search needs
-
 reply-as-requires : tie.Need-reply-as-requires
 reply-as-requires c κs = search needs
-
-first-of-requires : tie.Need-first-of-requires
-first-of-requires c κs = search needs
 
 early-reply-requires : tie.Need-early-reply-requires
 early-reply-requires c κs = search needs
@@ -25,44 +19,36 @@ number-requires : tie.Need-number-requires
 number-requires c κs = search needs
 
 draw-judged-requires : tie.Need-draw-judged-requires
-draw-judged-requires c κs = let a = c .before .before .before .before .before .before .before .before .before .before .before .before .before .before .args in
-    let told = c .before .before .before .before .before .before .before .version-of in
-    let lines = c .before .before .before .before .before .before .lent-reply in
-    let stored = c .before .before .before .before .before .reply-as in
-    let lent = c .before .before .before .before .first-of in
+draw-judged-requires c κs = let a = c .before .before .before .before .before .before .before .before .before .before .before .before .args in
+    let told = c .before .before .before .before .before .version-of in
+    let stored = c .before .before .before .before .reply-as in
     let first = c .before .before .before .early-reply in
-    met (a .line) (a .ula .now) (a .tile .now) (a .dots .now) (a .bytes .now) (a .layer2 .now) (a .sprites .now) (told .result) (told .ensures) (lines .result) (stored .result) (lent .result) (first .result) (lines .ensures) (stored .ensures) (lent .ensures) (first .ensures) (number-done (first .result) (sym (c .before .before .number .ensures) ∙ c .before .if1 .taken))
+    met (a .line) (a .ula .now) (a .tile .now) (a .dots .now) (a .bytes .now) (a .layer2 .now) (a .sprites .now) (told .result) (told .ensures) (stored .result) (first .result) (stored .ensures) (first .ensures) (number-done (first .result) (sym (c .before .before .number .ensures) ∙ c .before .if1 .taken))
 
 same-length : tie.Need-same-length
 same-length c = search needs
 
 returns : tie.Need-returns
-returns c = let a = c .before .before .before .before .before .before .before .before .before .before .before .before .before .before .before .before .before .args in
-    let told = c .before .before .before .before .before .before .before .before .before .before .version-of in
-    let lines = c .before .before .before .before .before .before .before .before .before .lent-reply in
-    let stored = c .before .before .before .before .before .before .before .before .reply-as in
-    let lent = c .before .before .before .before .before .before .before .first-of in
+returns c = let a = c .before .before .before .before .before .before .before .before .before .before .before .before .before .before .before .args in
+    let told = c .before .before .before .before .before .before .before .before .version-of in
+    let stored = c .before .before .before .before .before .before .before .reply-as in
     let first = c .before .before .before .before .before .before .early-reply in
     let d = c .before .before .draw-judged in
-    drawn-judged (a .line) (a .ula .now) (a .tile .now) (a .dots .now) (a .bytes .now) (a .layer2 .now) (a .sprites .now) (told .result) (told .ensures) (lines .result) (stored .result) (lent .result) (first .result) (lines .ensures) (stored .ensures) (lent .ensures) (first .ensures) (d .result) _ (number-done (first .result) (sym (c .before .before .before .before .before .number .ensures) ∙ c .before .before .before .before .if1 .taken)) (d .ensures .0) (d .ensures .1)
+    drawn-judged (a .line) (a .ula .now) (a .tile .now) (a .dots .now) (a .bytes .now) (a .layer2 .now) (a .sprites .now) (told .result) (told .ensures) (stored .result) (first .result) (stored .ensures) (first .ensures) (d .result) _ (number-done (first .result) (sym (c .before .before .before .before .before .number .ensures) ∙ c .before .before .before .before .if1 .taken)) (d .ensures .0) (d .ensures .1)
 
 returns-2 : tie.Need-returns-2
-returns-2 c = let a = c .before .before .before .before .before .before .before .before .before .before .before .before .before .args in
-    let told = c .before .before .before .before .before .before .version-of in
-    let lines = c .before .before .before .before .before .lent-reply in
-    let stored = c .before .before .before .before .reply-as in
-    let lent = c .before .before .before .first-of in
+returns-2 c = let a = c .before .before .before .before .before .before .before .before .before .before .before .args in
+    let told = c .before .before .before .before .version-of in
+    let stored = c .before .before .before .reply-as in
     let first = c .before .before .early-reply in
-    undrawn (a .line) (a .ula .now) (a .tile .now) (a .dots .now) (a .bytes .now) (a .layer2 .now) (a .sprites .now) (told .result) (told .ensures) (lines .result) (stored .result) (lent .result) (first .result) (lines .ensures) (stored .ensures) (lent .ensures) (first .ensures) (not-done (c .before .number .result) (first .result) (c .before .number .ensures) (c .if1 .left))
+    undrawn (a .line) (a .ula .now) (a .tile .now) (a .dots .now) (a .bytes .now) (a .layer2 .now) (a .sprites .now) (told .result) (told .ensures) (stored .result) (first .result) (stored .ensures) (first .ensures) (not-done (c .before .number .result) (first .result) (c .before .number .ensures) (c .if1 .left))
 
 pub draw-layers-record-spec : {M : Type 1} → statement M
 draw-layers-record-spec =
     tie.close
     (tie.spec
     version-of-requires
-    lent-reply-requires
     reply-as-requires
-    first-of-requires
     early-reply-requires
     number-requires
     draw-judged-requires
