@@ -9,7 +9,8 @@ priority dots across it, and S, the sprites, are five squares. Where all three a
     python3 orders.py [PNG-FILE]
 
 The file is orders.png in the current folder where none is named. It runs in any folder once the package is installed
-(pip install ./bindings/python), and in a checkout with bindings/python on PYTHONPATH."""
+(pip install ./bindings/python), and in a checkout with bindings/python on PYTHONPATH. It writes its PNG by parts of the
+package that are not for other programs."""
 
 from __future__ import annotations
 

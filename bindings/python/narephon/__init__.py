@@ -86,7 +86,9 @@ def _lent_line(name: str, dots: Sequence[int]) -> tuple[ctypes.Array[ctypes.c_ui
         copy = list(dots)
     except TypeError:
         raise TypeError(f"{name} must be a sequence of numbers, not {type(dots).__name__}") from None
-    _within(16, **{f"{name}[{place}]": dot for place, dot in enumerate(copy)})
+    # a name for each of 640 numbers takes longer than the line: they are named only where one is wrong
+    if not all(isinstance(dot, int) and 0 <= dot < 1 << 16 for dot in copy):
+        _within(16, **{f"{name}[{place}]": dot for place, dot in enumerate(copy)})
     return (ctypes.c_uint16 * max(len(copy), 1))(*copy), len(copy)
 
 

@@ -41,9 +41,9 @@ pub extern "C" fn narephon_draw(
     number(r)
 }
 
-// Draws a line as `narephon_draw` does, with the finished lines `layer2` and `sprites` of 640 numbers each by the order of $15 bits 4-2:
-// 0 to 511 a colour, 512 transparent, and in `layer2` a colour + 1,024, which is above all. Refused by 1, 2, 3, 16, 17, 18, 6, 7, 5, 8, 19
-// or 20, in this order, it leaves `dots`.
+// Draws a line as `narephon_draw` does and composes it, in the order of $15 bits 4-2, with the finished lines `layer2` and `sprites` of 640
+// numbers each: 0 to 511 a colour, 512 transparent, and in `layer2` a colour + 1,024, which is above all. Refused by 1, 2, 3, 16, 17, 18, 6,
+// 7, 5, 8, 19 or 20, in this order, it leaves `dots`.
 #[no_mangle]
 pub extern "C" fn narephon_draw_layers(
     bytes: &[u8],

@@ -16,7 +16,7 @@ use Rattle.state.specs.declared.Ula.{Ula}
 use Rattle.state_bits.specs.Bits.{layerOrder}
 use Rattle.layer_dots.specs.Orders.{layered, layeredRow}
 use Rattle.layer_dots.specs.Numbers.{layer2Allowed, spriteAllowed, bothAllowed}
-use Rattle.layer_dots.specs.Laid.{placedOver, LaidBounds, LayerBounds}
+use Rattle.layer_dots.specs.Laid.{levelOver, LaidBounds, LayerBounds}
 use Rattle.layer_dots.proofs.Over.{by-priority, sprites-upper, layer2-upper}
 
 module _ (order fallback : ℕ) (layer2 sprites row : List ℕ) (b : LayerBounds order layer2 sprites row) (colour : fallback ≤ 511) where
@@ -55,14 +55,14 @@ module _ (order fallback : ℕ) (layer2 sprites row : List ℕ) (b : LayerBounds
   layer2-bounds = laid-bounds layer2 sprites (b .layer2-long) (b .sprites-long) layer2-most (λ k h. omega (arith, sprite-most k h))
 
   pub sprites-laid : (out : List ℕ) → order % 2 ≡ 0
-      → out ≡ tab (λ (k : ℕ). placedOver (order / 2) fallback (getD sprites k 0) (getD layer2 k 0) (getD row k 0)) 640 → out ≡ layered order fallback sprites layer2 row
+      → out ≡ tab (λ (k : ℕ). levelOver (order / 2) fallback (getD sprites k 0) (getD layer2 k 0) (getD row k 0)) 640 → out ≡ layered order fallback sprites layer2 row
   unfolding layered
   sprites-laid out e d =
       d ∙ tab-ext _ _ 640 (λ k h.
       sprites-upper fallback colour (getD layer2 k 0) (layer2-allowed k h) (getD sprites k 0) (getD row k 0) (sprite-most k h) (b .dots k h) order order-most e)
 
   pub layer2-laid : (out : List ℕ) → (order % 2 ≡ 0 → ⊥)
-      → out ≡ tab (λ (k : ℕ). placedOver (order / 2) fallback (getD layer2 k 0) (getD sprites k 0) (getD row k 0)) 640 → out ≡ layered order fallback sprites layer2 row
+      → out ≡ tab (λ (k : ℕ). levelOver (order / 2) fallback (getD layer2 k 0) (getD sprites k 0) (getD row k 0)) 640 → out ≡ layered order fallback sprites layer2 row
   unfolding layered
   layer2-laid out e d =
       d ∙ tab-ext _ _ 640 (λ k h.

@@ -11,7 +11,7 @@ use Rattle.lists.proofs.Search.{not-both}
 use Rattle.surface.specs.Dots.{topDot}
 use Rattle.layer_dots.specs.Orders.{topShown, isPriority, layeredDot}
 use Rattle.layer_dots.specs.Numbers.{layer2Allowed}
-use Rattle.layer_dots.specs.Laid.{toggled, greater, untagged, over, threeOver, placedOver}
+use Rattle.layer_dots.specs.Laid.{toggled, greater, untagged, over, threeOver, levelOver}
 
 pub greater-left : (a b : ℕ) → b ≤ a → greater a b ≡ a
 greater-left a b h = if-false (ltb a b) b a (le-ltb a b h)
@@ -24,9 +24,9 @@ greater-most a b n ha hb = either (λ (x : ℕ). x < n) (ltb a b) b a hb ha
 
 -- ---- one dot over what shows below it
 
-over-clear : (below : ℕ) → below % 1024 < 512 → over 512 below ≡ below
+over-none : (below : ℕ) → below % 1024 < 512 → over 512 below ≡ below
 unfolding over
-over-clear below h = ap untagged (go (ltb 0 below) refl) ∙ omega arith
+over-none below h = ap untagged (go (ltb 0 below) refl) ∙ omega arith
   where
     go : (b : Bool) → ltb 0 below ≡ b → cond b below 0 ≡ below
     go true e = refl
@@ -59,7 +59,7 @@ module _ (x : ℕ) (h : x ≤ 512) where
   over-top below g = go (eqb x 512) refl
     where
       go : (b : Bool) → eqb x 512 ≡ b → over x below ≡ cond b below x
-      go true e = ap (λ (n : ℕ). over n below) (eqb-true x 512 e) ∙ over-clear below (omega arith)
+      go true e = ap (λ (n : ℕ). over n below) (eqb-true x 512 e) ∙ over-none below (omega arith)
       go false e = over-colour x below (omega (arith, eqb-false x 512 e)) g
 
   top-most : (below : ℕ) → below ≤ 511 → topDot x below ≤ 511
@@ -74,7 +74,7 @@ module _ (x : ℕ) (h : x ≤ 512) where
   over-under p g m = go (eqb x 512) refl
     where
       go : (b : Bool) → eqb x 512 ≡ b → over x p ≡ p
-      go true e = ap (λ (n : ℕ). over n p) (eqb-true x 512 e) ∙ over-clear p (omega arith)
+      go true e = ap (λ (n : ℕ). over n p) (eqb-true x 512 e) ∙ over-none p (omega arith)
       go false e = over-hidden x p (omega (arith, eqb-false x 512 e)) g m
 
 -- ---- three dots, one of which may be a priority dot
@@ -144,8 +144,8 @@ module _ (fallback : ℕ) (hf : fallback ≤ 511) where
 
     module _ (s u : ℕ) (hs : s ≤ 512) (hu : u ≤ 512) where
       -- bit 0 clear: the sprites are the upper lent line
-      pub sprites-upper : (n : ℕ) → n ≤ 5 → n % 2 ≡ 0 → placedOver (n / 2) fallback s l u ≡ layeredDot n fallback s l u
-      unfolding placedOver layeredDot topShown
+      pub sprites-upper : (n : ℕ) → n ≤ 5 → n % 2 ≡ 0 → levelOver (n / 2) fallback s l u ≡ layeredDot n fallback s l u
+      unfolding levelOver layeredDot topShown
       sprites-upper zero h e = second s u hs hu
       sprites-upper (suc zero) h e = absurd (omega arith)
       sprites-upper (suc (suc zero)) h e = third s u hs hu
@@ -154,8 +154,8 @@ module _ (fallback : ℕ) (hf : fallback ≤ 511) where
       sprites-upper (suc (suc (suc (suc (suc n))))) h e = absurd (omega arith)
 
       -- bit 0 set: Layer 2 is
-      pub layer2-upper : (n : ℕ) → n ≤ 5 → (n % 2 ≡ 0 → ⊥) → placedOver (n / 2) fallback l s u ≡ layeredDot n fallback s l u
-      unfolding placedOver layeredDot topShown
+      pub layer2-upper : (n : ℕ) → n ≤ 5 → (n % 2 ≡ 0 → ⊥) → levelOver (n / 2) fallback l s u ≡ layeredDot n fallback s l u
+      unfolding levelOver layeredDot topShown
       layer2-upper zero h e = absurd (e refl)
       layer2-upper (suc zero) h e = first s u hs hu
       layer2-upper (suc (suc zero)) h e = absurd (e refl)

@@ -29,10 +29,10 @@ over x below = untagged (greater (toggled x) below)
 unfoldable pub threeOver : ℕ → ℕ → ℕ → ℕ → ℕ
 threeOver x y z fallback = over x (over y (over z fallback)) % 512
 
--- the upper and the lower of the two lent dots with the composed one at its place: 0 below both, 1 between them, 2 above
-unfoldable pub placedOver : ℕ → ℕ → ℕ → ℕ → ℕ → ℕ
-placedOver place fallback upper lower u =
-    threeOver (cond (eqb place 2) u upper) (cond (eqb place 2) upper (cond (eqb place 1) u lower)) (cond (eqb place 0) u lower) fallback
+-- the upper and the lower of the two lent dots with the composed one at its level: 0 below both, 1 between them, 2 above
+unfoldable pub levelOver : ℕ → ℕ → ℕ → ℕ → ℕ → ℕ
+levelOver level fallback upper lower u =
+    threeOver (cond (eqb level 2) u upper) (cond (eqb level 2) upper (cond (eqb level 1) u lower)) (cond (eqb level 0) u lower) fallback
 
 -- what laying by numbers asks of the lines
 pub record LaidBounds (fallback : ℕ) (upper lower row : List ℕ) : Type 0 where

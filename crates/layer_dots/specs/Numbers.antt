@@ -22,7 +22,7 @@ layer2Allowed n = leb n 512 || leb 1024 n && leb n 1535
 abbrev pub bothAllowed : List ℕ → List ℕ → ℕ → Bool
 bothAllowed layer2 sprites k = layer2Allowed (getD layer2 k 0) && spriteAllowed (getD sprites k 0)
 
--- 3: each lent line not 640 long
+-- 3: one of the two lent lines is not 640 long
 unfoldable pub lentReply : ℕ → ℕ → Reply
 lentReply layer2 sprites = cond (eqb layer2 640 && eqb sprites 640) Done BufferLength
 

@@ -52,7 +52,7 @@ topShown (x ∷ xs) fallback s l u = topDot (dotOf x s l u) (topShown xs fallbac
 abbrev pub isPriority : ℕ → Bool
 isPriority l = leb 1024 l
 
--- a priority dot is above all
+-- a priority dot is above all and shows its colour; else the order decides
 unfoldable pub layeredDot : ℕ → ℕ → ℕ → ℕ → ℕ → ℕ
 layeredDot order fallback s l u = cond (isPriority l) (l - 1024) (topShown (lettersOf order) fallback s l u)
 
@@ -61,6 +61,6 @@ unfoldable pub layered : ℕ → ℕ → List ℕ → List ℕ → List ℕ → 
 layered order fallback sprites layer2 row =
     tab (λ (k : ℕ). layeredDot order fallback (getD sprites k 0) (getD layer2 k 0) (getD row k 0)) 640
 
--- by the ULA's registers: the order by $15, the fallback widened as $41
+-- by the ULA's registers: the order of $15, and the fallback, widened as $41 does
 unfoldable pub layeredRow : Ula → List ℕ → List ℕ → List ℕ → List ℕ
 layeredRow u sprites layer2 row = layered (layerOrder u) (widened (u .fallback)) sprites layer2 row

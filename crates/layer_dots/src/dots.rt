@@ -2,7 +2,7 @@
 ghost use mathlib.Core.Path.{_≡_};
 ghost use mathlib.Core.Bool.{cond};
 ghost use Prim.Native.Nat.{_<_, _≤_};
-ghost use Rattle.layer_dots.specs.Laid.{toggled, greater, over, threeOver, placedOver};
+ghost use Rattle.layer_dots.specs.Laid.{toggled, greater, over, threeOver, levelOver};
 
 // A number with its bit 9 the other way.
 pub fn toggle(n: u16) -> u16
@@ -41,13 +41,13 @@ fn one_of(b: bool, x: u16, y: u16) -> u16
     if b { x } else { y }
 }
 
-// The three are put in their order before they are laid: the place is the same for a whole line, and the compiler makes a loop for each.
-pub fn placed_over(place: u8, fallback: u16, upper: u16, lower: u16, u: u16) -> u16
+// The three are put in their order before they are laid: the level is the same for a whole line, and the compiler makes a loop for each.
+pub fn level_over(level: u8, fallback: u16, upper: u16, lower: u16, u: u16) -> u16
     requires { ⌜ (fallback < 2048) × (upper < 2048) × (lower < 2048) × (u < 2048) ⌝ }
-    ensures { λ r. ⌜ r ≡ placedOver place fallback upper lower u ⌝ }
+    ensures { λ r. ⌜ r ≡ levelOver level fallback upper lower u ⌝ }
 {
-    let first = one_of(place == 2, u, upper);
-    let second = one_of(place == 2, upper, one_of(place == 1, u, lower));
-    let third = one_of(place == 0, u, lower);
+    let first = one_of(level == 2, u, upper);
+    let second = one_of(level == 2, upper, one_of(level == 1, u, lower));
+    let third = one_of(level == 0, u, lower);
     three_over(first, second, third, fallback)
 }

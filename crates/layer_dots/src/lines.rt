@@ -5,17 +5,17 @@ ghost use lib.ListN.{getD};
 ghost use Rattle.state_bits.specs.Bits.{layerOrder};
 ghost use Rattle.lists.specs.Tab.{tab};
 ghost use Rattle.layer_dots.specs.Orders.{layered, layeredRow};
-ghost use Rattle.layer_dots.specs.Laid.{placedOver, LaidBounds, LayerBounds};
-use crate::dots::placed_over;
+ghost use Rattle.layer_dots.specs.Laid.{levelOver, LaidBounds, LayerBounds};
+use crate::dots::level_over;
 use state::Ula;
 
-// The upper and the lower lent line with the row at its place among them.
-fn lay_placed(place: u8, fallback: u16, upper: &[u16], lower: &[u16], row: &mut [u16])
+// The upper and the lower lent line with the row at its level among them.
+fn lay_level(level: u8, fallback: u16, upper: &[u16], lower: &[u16], row: &mut [u16])
     requires { ⌜ LaidBounds fallback (now upper) (now lower) (now row) ⌝ }
-    ensures { λ _. ⌜ now (row .exit) ≡ tab (λ k. placedOver place fallback (getD (now (upper .entry)) k 0) (getD (now (lower .entry)) k 0) (getD (now (row .entry)) k 0)) 640 ⌝ }
+    ensures { λ _. ⌜ now (row .exit) ≡ tab (λ k. levelOver level fallback (getD (now (upper .entry)) k 0) (getD (now (lower .entry)) k 0) (getD (now (row .entry)) k 0)) 640 ⌝ }
 {
     for k in 0..640 {
-        row[k] = placed_over(place, fallback, upper[k], lower[k], row[k]);
+        row[k] = level_over(level, fallback, upper[k], lower[k], row[k]);
     }
 }
 
@@ -25,9 +25,9 @@ fn lay_order(order: u8, fallback: u16, layer2: &[u16], sprites: &[u16], row: &mu
     ensures { λ _. ⌜ now (row .exit) ≡ layered order fallback (now (sprites .entry)) (now (layer2 .entry)) (now (row .entry)) ⌝ }
 {
     if order % 2 == 0 {
-        lay_placed(order / 2, fallback, sprites, layer2, row);
+        lay_level(order / 2, fallback, sprites, layer2, row);
     } else {
-        lay_placed(order / 2, fallback, layer2, sprites, row);
+        lay_level(order / 2, fallback, layer2, sprites, row);
     }
 }
 

@@ -40,7 +40,8 @@ fn above_512(n: u16) -> u16
     if n > 512 { n - 512 } else { 0 }
 }
 
-// 0 exactly where a number of Layer 2 is allowed: what is above 512 starts at 512 again with the priority dots.
+// 0 exactly where a number of Layer 2 is allowed. Less 512 the allowed ones are 0 and 512 to 1,023; with bit 9 the other way 512 and 0 to
+// 511; so that 512 less again leaves 0 of these and of no other.
 fn layer2_excess(n: u16) -> u16
     ensures { λ r. ⌜ eqb r 0 ≡ layer2Allowed n ⌝ }
 {

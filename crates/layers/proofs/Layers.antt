@@ -2,7 +2,7 @@
 -- parts, and the line that is laid.
 use Prim.Native.Nat.{ℕ}
 use mathlib.Core.Path.{_≡_, refl, sym, ap, _∙_}
-use mathlib.Core.List.{List, [], _∷_}
+use mathlib.Core.List.{List}
 use mathlib.Core.Bool.{Bool, true, false, _&&_}
 use lib.Dec.{eqb}
 use lib.ListN.{length}
@@ -22,15 +22,14 @@ use Rattle.state.specs.declared.Ula.{Ula}
 use Rattle.state_bits.specs.Bits.{layerOrder}
 use Rattle.surface.specs.Lines.{isLine}
 use Rattle.surface.specs.declared.lines.LineNumber.{LineNumber}
-use Rattle.line_replies.specs.Replies.{lineReply, lengthsReply, stateReply}
 use Rattle.line_replies.proofs.Exits.{line-met, lengths-met}
 use Rattle.layer_dots.specs.Orders.{layeredRow}
 use Rattle.layer_dots.specs.Numbers.{bothAllowed, isOrder, lentReply, orderReply, numbersReply}
 use Rattle.layer_dots.specs.Laid.{LayerBounds}
 use Rattle.line.specs.Lines.{composedDot, composedLine}
 use Rattle.line.specs.Shown.{ShownBytes}
-use Rattle.line_laws.proofs.Claims.{composed-most}
-use Rattle.layers.specs.Layers.{layeredLine, layeredReply}
+use Rattle.line_laws.proofs.Composed.{composed-most}
+use Rattle.layers.specs.Layers.{layeredLine, earlyPieces, latePieces, layeredReply}
 
 lent-met : (a b : ℕ) → lentReply a b ≡ Done → (a ≡ 640) × (b ≡ 640)
 unfolding lentReply
@@ -40,48 +39,51 @@ lent-met a b d =
 
 -- ---- the replies
 
-module _ (line : LineNumber) (ula tile out : ℕ) (lent : Reply) (s : State) (layer2 sprites : List ℕ) where
-  abbrev pub early-pieces : List Reply
-  early-pieces = lineReply line ∷ lengthsReply ula tile out ∷ lentReply (length layer2) (length sprites) ∷ lent ∷ []
+-- what a drawing has met that is not refused early
+module _ (line : LineNumber) (ula tile out layer2 sprites : ℕ) (state : Reply) (d : firstHit (earlyPieces line ula tile out layer2 sprites state) ≡ Done) where
+  pub lengths-known : (layer2 ≡ 640) × (sprites ≡ 640)
+  lengths-known = lent-met layer2 sprites (all-done (earlyPieces line ula tile out layer2 sprites state) d .1 .1 .0)
 
-  abbrev pub late-pieces : List Reply
-  late-pieces = stateReply (s .ula) (s .tiles) (s .palette) (s .ports) ∷ orderReply (s .ula) ∷ numbersReply layer2 sprites ∷ []
-
-  abbrev reply : Reply
-  reply = layeredReply line ula tile out lent s layer2 sprites
-
-  -- what the lengths are where nothing is refused early
-  pub lengths-known : firstHit early-pieces ≡ Done → (length layer2 ≡ 640) × (length sprites ≡ 640)
-  lengths-known d = lent-met (length layer2) (length sprites) (all-done early-pieces d .1 .1 .0)
-
-  pub early-met : firstHit early-pieces ≡ Done → (isLine line ≡ true) × (ula ≡ 16384) × (tile ≡ 16384) × (out ≡ 640) × (lent ≡ Done)
-  early-met d =
-      let m = all-done early-pieces d in
+  pub early-met : (isLine line ≡ true) × (ula ≡ 16384) × (tile ≡ 16384) × (out ≡ 640) × (state ≡ Done)
+  early-met =
+      let m = all-done (earlyPieces line ula tile out layer2 sprites state) d in
       let q = lengths-met ula tile out (m .1 .0) in
       (line-met line (m .0), q .0, q .1, q .2, m .1 .1 .1 .0)
 
-  pub late-met : firstHit late-pieces ≡ Done → (isOrder (layerOrder (s .ula)) ≡ true) × (all (bothAllowed layer2 sprites) 640 ≡ true)
-  unfolding orderReply numbersReply
-  late-met d =
-      let m = all-done late-pieces d in
-      (test-met (isOrder (layerOrder (s .ula))) Done NoOrder refl (m .1 .0) .0, test-met (all (bothAllowed layer2 sprites) 640) Done BadDot refl (m .1 .1 .0) .0)
+-- and not late
+pub late-met : (s : State) (layer2 sprites : List ℕ) → firstHit (latePieces s layer2 sprites) ≡ Done
+    → (isOrder (layerOrder (s .ula)) ≡ true) × (all (bothAllowed layer2 sprites) 640 ≡ true)
+unfolding orderReply numbersReply
+late-met s layer2 sprites d =
+    let m = all-done (latePieces s layer2 sprites) d in
+    (test-met (isOrder (layerOrder (s .ula))) Done NoOrder refl (m .1 .0) .0, test-met (all (bothAllowed layer2 sprites) 640) Done BadDot refl (m .1 .1 .0) .0)
+
+module _ (line : LineNumber) (ula tile out : ℕ) (state : Reply) (s : State) (layer2 sprites : List ℕ) where
+  abbrev early : List Reply
+  early = earlyPieces line ula tile out (length layer2) (length sprites) state
+
+  abbrev late : List Reply
+  late = latePieces s layer2 sprites
+
+  abbrev reply : Reply
+  reply = layeredReply line ula tile out state s layer2 sprites
 
   -- the reply is what is refused early, or else late
-  pub refused-late : firstHit early-pieces ≡ Done → reply ≡ firstHit late-pieces
+  pub refused-late : firstHit early ≡ Done → reply ≡ firstHit late
   unfolding layeredReply
-  refused-late d = hit-later early-pieces late-pieces d
+  refused-late d = hit-later early late d
 
-  pub refused-early : isDone (firstHit early-pieces) ≡ false → reply ≡ firstHit early-pieces
+  pub refused-early : isDone (firstHit early) ≡ false → reply ≡ firstHit early
   unfolding layeredReply
-  refused-early d = hit-early early-pieces late-pieces d
+  refused-early d = hit-early early late d
 
   -- a drawing that is not refused is refused neither early nor late
-  pub both-met : reply ≡ Done → (firstHit early-pieces ≡ Done) × (firstHit late-pieces ≡ Done)
-  both-met d = go (isDone (firstHit early-pieces)) refl
+  pub both-met : reply ≡ Done → (firstHit early ≡ Done) × (firstHit late ≡ Done)
+  both-met d = go (isDone (firstHit early)) refl
     where
-      go : (b : Bool) → isDone (firstHit early-pieces) ≡ b → (firstHit early-pieces ≡ Done) × (firstHit late-pieces ≡ Done)
-      go true e = let h = is-done (firstHit early-pieces) e in (h, sym (refused-late h) ∙ d)
-      go false e = absurd (refused (firstHit early-pieces) e (sym (refused-early e) ∙ d))
+      go : (b : Bool) → isDone (firstHit early) ≡ b → (firstHit early ≡ Done) × (firstHit late ≡ Done)
+      go true e = let h = is-done (firstHit early) e in (h, sym (refused-late h) ∙ d)
+      go false e = absurd (refused (firstHit early) e (sym (refused-early e) ∙ d))
 
 -- ---- the line
 

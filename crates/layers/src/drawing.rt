@@ -1,16 +1,15 @@
 // A drawing with lent lines.
 ghost use mathlib.Core.Path.{_≡_};
 ghost use mathlib.Core.Bool.{true};
-ghost use mathlib.Core.List.{[], _∷_};
 ghost use lib.ListN.{length};
 ghost use Rattle.reply.specs.First.{firstHit};
 ghost use Rattle.state.specs.Lawful.{lawfulState};
 ghost use Rattle.surface.specs.Lines.{isLine};
 ghost use Rattle.lists.specs.Search.{all};
 ghost use Rattle.state_bits.specs.Bits.{layerOrder};
-ghost use Rattle.layer_dots.specs.Numbers.{bothAllowed, isOrder, lentReply};
-ghost use Rattle.line_replies.specs.Replies.{lineReply, lengthsReply, drawnIf};
-ghost use Rattle.layers.specs.Layers.{layeredLine, layersReply};
+ghost use Rattle.layer_dots.specs.Numbers.{bothAllowed, isOrder};
+ghost use Rattle.line_replies.specs.Replies.{drawnIf};
+ghost use Rattle.layers.specs.Layers.{layeredLine, earlyPieces, layersReply};
 use layer_dots::layers_reply;
 use layer_dots::lent_reply;
 use line_replies::lengths_reply;
@@ -23,8 +22,8 @@ use state::State;
 use state::lawful_reply;
 use surface::LineNumber;
 
-// What refuses before the numbers of the lent lines are looked at, which both have to be 640 long for: the line, the lengths, and what
-// refuses the state as it is lent.
+// What refuses before the numbers of the lent lines are looked at, since that needs both to be 640 long: 1; 2, 3; and the state's own
+// reply.
 pub fn early_reply(
     line: LineNumber,
     ula: usize,
@@ -32,11 +31,11 @@ pub fn early_reply(
     out: usize,
     layer2: usize,
     sprites: usize,
-    lent: Reply,
+    state: Reply,
 ) -> Reply
-    ensures { λ r. ⌜ r ≡ firstHit (lineReply line ∷ lengthsReply ula tile out ∷ lentReply layer2 sprites ∷ lent ∷ []) ⌝ }
+    ensures { λ r. ⌜ r ≡ firstHit (earlyPieces line ula tile out layer2 sprites state) ⌝ }
 {
-    let last = first_of(lent_reply(layer2, sprites), lent);
+    let last = first_of(lent_reply(layer2, sprites), state);
     first_of(
         line_reply(line),
         first_of(lengths_reply(ula, tile, out), last),

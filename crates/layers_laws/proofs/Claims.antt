@@ -30,7 +30,7 @@ use Rattle.layer_dots.specs.Orders.{Layer, S, L, U, lettersOf, dotOf, topShown,
 use Rattle.layer_dots.specs.Numbers.{spriteAllowed, layer2Allowed, bothAllowed, isOrder, lentReply, orderReply, numbersReply}
 use Rattle.layer_dots.proofs.Over.{by-priority}
 use Rattle.line.specs.Lines.{composedDot, composedLine, lineDot, drawnLine}
-use Rattle.line_laws.proofs.Claims.{composed-most, typed-bytes}
+use Rattle.line_laws.proofs.Composed.{composed-most, typed-bytes}
 use Rattle.line_replies.specs.Replies.{lineReply, lengthsReply, stateReply, drawReply, drawnIf}
 use Rattle.lent_drawing.specs.Drawn.{lentDrawReply, lentDrawn}
 use Rattle.layers.specs.Layers.{layeredLine, layeredReply}
@@ -63,50 +63,50 @@ in-order : (s : State) (r : Reply) → isOrder (layerOrder (s .ula)) ≡ true �
 unfolding firstHit firstOf orderReply
 in-order s r o = ap (λ (q : Reply). firstOf r (firstOf q Done)) (if-true _ _ _ o) ∙ last-of r
 
-clear-dot : (n fallback u : ℕ) → n ≤ 5 → layeredDot n fallback 512 512 u ≡ topDot u fallback
+bare-dot : (n fallback u : ℕ) → n ≤ 5 → layeredDot n fallback 512 512 u ≡ topDot u fallback
 unfolding layeredDot topShown topDot
-clear-dot n fallback u h = by-order (λ (xs : List Layer). topShown xs fallback 512 512 u ≡ topDot u fallback) n h refl refl refl refl refl refl
+bare-dot n fallback u h = by-order (λ (xs : List Layer). topShown xs fallback 512 512 u ≡ topDot u fallback) n h refl refl refl refl refl refl
 
 module _ (layer2 sprites : List ℕ) (cl : Transparent layer2) (cs : Transparent sprites) where
-  clear-allowed : all (bothAllowed layer2 sprites) 640 ≡ true
-  clear-allowed =
-      all-of (bothAllowed layer2 sprites) 640 (λ k h. ap₂ (λ (x y : ℕ). layer2Allowed x && spriteAllowed y) (cl .clear k h) (cs .clear k h))
+  bare-allowed : all (bothAllowed layer2 sprites) 640 ≡ true
+  bare-allowed =
+      all-of (bothAllowed layer2 sprites) 640 (λ k h. ap₂ (λ (x y : ℕ). layer2Allowed x && spriteAllowed y) (cl .every k h) (cs .every k h))
 
-  clear-numbers : numbersReply layer2 sprites ≡ Done
+  bare-numbers : numbersReply layer2 sprites ≡ Done
   unfolding numbersReply
-  clear-numbers = if-true (all (bothAllowed layer2 sprites) 640) Done BadDot clear-allowed
+  bare-numbers = if-true (all (bothAllowed layer2 sprites) 640) Done BadDot bare-allowed
 
-  clear-lengths : lentReply (length layer2) (length sprites) ≡ Done
+  bare-lengths : lentReply (length layer2) (length sprites) ≡ Done
   unfolding lentReply
-  clear-lengths = ap₂ (λ (x y : ℕ). cond (eqb x 640 && eqb y 640) Done BufferLength) (cl .long) (cs .long)
+  bare-lengths = ap₂ (λ (x y : ℕ). cond (eqb x 640 && eqb y 640) Done BufferLength) (cl .long) (cs .long)
 
-  clear-line : (s : State) (ula tile : List ℕ) (line : LineNumber) → isOrder (layerOrder (s .ula)) ≡ true → layeredLine s ula tile layer2 sprites line ≡ drawnLine s ula tile line
+  bare-line : (s : State) (ula tile : List ℕ) (line : LineNumber) → isOrder (layerOrder (s .ula)) ≡ true → layeredLine s ula tile layer2 sprites line ≡ drawnLine s ula tile line
   unfolding layeredLine layeredRow layered composedLine drawnLine lineDot
-  clear-line s ula tile line o =
+  bare-line s ula tile line o =
       tab-ext _ _ 640 (λ k h.
-      rw (cs .clear k h, cl .clear k h, getD-tab (composedDot s ula tile line) 640 k h)
-      (clear-dot (layerOrder (s .ula)) (widened (s .ula .fallback)) (composedDot s ula tile line k) (leb-true (layerOrder (s .ula)) 5 o)))
+      rw (cs .every k h, cl .every k h, getD-tab (composedDot s ula tile line) 640 k h)
+      (bare-dot (layerOrder (s .ula)) (widened (s .ula .fallback)) (composedDot s ula tile line k) (leb-true (layerOrder (s .ula)) 5 o)))
 
   -- two pieces are done, and 19 comes after the others
-  clear-reply : (line : LineNumber) (ula tile out : ℕ) (lent : Reply) (s : State)
+  bare-reply : (line : LineNumber) (ula tile out : ℕ) (lent : Reply) (s : State)
       → layeredReply line ula tile out lent s layer2 sprites
       ≡ firstHit (firstHit (lineReply line ∷ lengthsReply ula tile out ∷ lent ∷ stateReply (s .ula) (s .tiles) (s .palette) (s .ports) ∷ []) ∷ orderReply (s .ula) ∷ [])
   unfolding layeredReply firstHit firstOf
-  clear-reply line ula tile out lent s =
-      rw (clear-lengths, clear-numbers)
+  bare-reply line ula tile out lent s =
+      rw (bare-lengths, bare-numbers)
       (joined (lineReply line ∷ lengthsReply ula tile out ∷ lent ∷ stateReply (s .ula) (s .tiles) (s .palette) (s .ports) ∷ []) (orderReply (s .ula) ∷ []))
 
 pub nothingLent : NothingLent
 unfolding drawReply lentDrawReply lentLayered lentDrawn
 nothingLent =
     record {
-      lines = λ s ula tile layer2 sprites line cl cs o. clear-line layer2 sprites cl cs s ula tile line o;
-      replies = λ s layer2 sprites line ula tile out cl cs. clear-reply layer2 sprites cl cs line ula tile out (lawfulReply s) s;
+      lines = λ s ula tile layer2 sprites line cl cs o. bare-line layer2 sprites cl cs s ula tile line o;
+      replies = λ s layer2 sprites line ula tile out cl cs. bare-reply layer2 sprites cl cs line ula tile out (lawfulReply s) s;
       lent-lines = λ b ula tile layer2 sprites dots line cl cs o.
           ap₂ (λ (r : Reply) (row : List ℕ). drawnIf r row dots)
-          (clear-reply layer2 sprites cl cs line (length ula) (length tile) (length dots) (readRecord b .reply) (readRecord b .state) ∙ in-order (readRecord b .state) _ o)
-          (clear-line layer2 sprites cl cs (readRecord b .state) ula tile line o);
-      lent-replies = λ b layer2 sprites line ula tile dots cl cs. clear-reply layer2 sprites cl cs line ula tile dots (readRecord b .reply) (readRecord b .state);
+          (bare-reply layer2 sprites cl cs line (length ula) (length tile) (length dots) (readRecord b .reply) (readRecord b .state) ∙ in-order (readRecord b .state) _ o)
+          (bare-line layer2 sprites cl cs (readRecord b .state) ula tile line o);
+      lent-replies = λ b layer2 sprites line ula tile dots cl cs. bare-reply layer2 sprites cl cs line ula tile dots (readRecord b .reply) (readRecord b .state);
     }
 
 -- ---- what a dot shows
@@ -129,9 +129,9 @@ module _ (fallback s l u : ℕ) where
   Tops dot = ((dot ≡ s) × (s ≤ 511)) ⊎ (((dot ≡ l) × (l ≤ 511)) ⊎ ((dot ≡ u) × (u ≤ 511)))
 
   -- the dots of these letters are transparent
-  abbrev Clear : List Layer → Type 0
-  Clear [] = Unit {0}
-  Clear (x ∷ xs) = (dotOf x s l u ≡ 512) × Clear xs
+  abbrev Bare : List Layer → Type 0
+  Bare [] = Unit {0}
+  Bare (x ∷ xs) = (dotOf x s l u ≡ 512) × Bare xs
 
   module _ (hs : s ≤ 512) (hl : l ≤ 512) (hu : u ≤ 512) where
     opaque : (x : Layer) → eqb (dotOf x s l u) 512 ≡ false → Tops (dotOf x s l u)
@@ -140,33 +140,33 @@ module _ (fallback s l u : ℕ) where
     opaque U e = inr (inr (refl, omega (arith, eqb-false u 512 e)))
 
     -- the topmost that is not transparent, or the fallback below transparent ones alone
-    tops : (xs : List Layer) → Tops (topShown xs fallback s l u) ⊎ ((topShown xs fallback s l u ≡ fallback) × Clear xs)
+    tops : (xs : List Layer) → Tops (topShown xs fallback s l u) ⊎ ((topShown xs fallback s l u ≡ fallback) × Bare xs)
     unfolding topShown topDot
     tops [] = inr (refl, tt)
     tops (x ∷ xs) = go (tops xs) (eqb (dotOf x s l u) 512) refl
       where
-        go : Tops (topShown xs fallback s l u) ⊎ ((topShown xs fallback s l u ≡ fallback) × Clear xs) → (b : Bool) → eqb (dotOf x s l u) 512 ≡ b
-            → Tops (cond b (topShown xs fallback s l u) (dotOf x s l u)) ⊎ ((cond b (topShown xs fallback s l u) (dotOf x s l u) ≡ fallback) × Clear (x ∷ xs))
+        go : Tops (topShown xs fallback s l u) ⊎ ((topShown xs fallback s l u ≡ fallback) × Bare xs) → (b : Bool) → eqb (dotOf x s l u) 512 ≡ b
+            → Tops (cond b (topShown xs fallback s l u) (dotOf x s l u)) ⊎ ((cond b (topShown xs fallback s l u) (dotOf x s l u) ≡ fallback) × Bare (x ∷ xs))
         go (inl t) true e = inl t
         go (inr q) true e = inr (q .0, (eqb-true (dotOf x s l u) 512 e, q .1))
         go r false e = inl (opaque x e)
 
     -- all three letters are in each order
-    all-clear : (n : ℕ) → n ≤ 5 → Clear (lettersOf n) → (s ≡ 512) × (l ≡ 512) × (u ≡ 512)
-    all-clear n h =
-        by-order (λ (xs : List Layer). Clear xs → (s ≡ 512) × (l ≡ 512) × (u ≡ 512)) n h (λ c. (c .0, c .1 .0, c .1 .1 .0)) (λ c. (c .1 .0, c .0, c .1 .1 .0)) (λ c. (c .0, c .1 .1 .0, c .1 .0))
+    all-bare : (n : ℕ) → n ≤ 5 → Bare (lettersOf n) → (s ≡ 512) × (l ≡ 512) × (u ≡ 512)
+    all-bare n h =
+        by-order (λ (xs : List Layer). Bare xs → (s ≡ 512) × (l ≡ 512) × (u ≡ 512)) n h (λ c. (c .0, c .1 .0, c .1 .1 .0)) (λ c. (c .1 .0, c .0, c .1 .1 .0)) (λ c. (c .0, c .1 .1 .0, c .1 .0))
         (λ c. (c .1 .1 .0, c .0, c .1 .0)) (λ c. (c .1 .0, c .1 .1 .0, c .0)) (λ c. (c .1 .1 .0, c .1 .0, c .0))
 
     plain-shows : (n : ℕ) → n ≤ 5 → Shows fallback s l u (topShown (lettersOf n) fallback s l u)
     plain-shows n h = go (tops (lettersOf n))
       where
-        go : Tops (topShown (lettersOf n) fallback s l u) ⊎ ((topShown (lettersOf n) fallback s l u ≡ fallback) × Clear (lettersOf n)) → Shows fallback s l u (topShown (lettersOf n) fallback s l u)
+        go : Tops (topShown (lettersOf n) fallback s l u) ⊎ ((topShown (lettersOf n) fallback s l u ≡ fallback) × Bare (lettersOf n)) → Shows fallback s l u (topShown (lettersOf n) fallback s l u)
         go (inl (inl t)) = inl t
         go (inl (inr (inl t))) =
             let m : l % 1024 ≡ l = omega arith in
             inr (inl (t .0 ∙ sym m, omega (arith, t .1)))
         go (inl (inr (inr t))) = inr (inr (inl t))
-        go (inr q) = let c = all-clear n h (q .1) in inr (inr (inr (q .0, c .0, c .1, c .2)))
+        go (inr q) = let c = all-bare n h (q .1) in inr (inr (inr (q .0, c .0, c .1, c .2)))
 
   dot-shows : (n : ℕ) → n ≤ 5 → layer2Allowed l ≡ true → s ≤ 512 → u ≤ 512 → Shows fallback s l u (layeredDot n fallback s l u)
   unfolding layeredDot

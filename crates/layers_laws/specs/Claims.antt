@@ -26,7 +26,7 @@ use Rattle.lent_layers.specs.Lent.{lentLayersReply, lentLayered}
 -- a line of transparent dots
 pub record Transparent (dots : List ℕ) : Type 0 where
   pub long : length dots ≡ 640
-  pub clear : (k : ℕ) → k < 640 → getD dots k 0 ≡ 512
+  pub every : (k : ℕ) → k < 640 → getD dots k 0 ≡ 512
 
 -- both lent lines transparent: the line of a drawing in each of the six orders, and its reply, which 19 comes after
 pub record NothingLent : Type 0 where

@@ -20,7 +20,7 @@ use reply::first_of;
 use reply::number;
 use surface::LineNumber;
 
-// The ULA's dots of a line.
+// The ULA's dots of a line, and what the types of the bytes read give, which `composed_record` hands on.
 fn lay_ula(bytes: &[u8], v: Version, bank: &[u8], line: LineNumber, dots: &mut [u16])
     requires { ⌜ (RecordBounds v (now bytes)) × (isLine line ≡ true) × (length (now bank) ≡ 16384) × (length (now dots) ≡ 640) ⌝ }
     ensures { λ _. ⌜ (now (dots .exit) ≡ tab (ulaDot (stateAs v (now (bytes .entry))) (now (bank .entry)) line) 640) × (ShownBytes (stateAs v (now (bytes .entry)))) ⌝ }
@@ -47,8 +47,8 @@ fn lay_tiles(bytes: &[u8], v: Version, bank: &[u8], line: LineNumber, dots: &mut
     line_tiles::tiles_over(u, t, &clip, &pal, bank, line, dots);
 }
 
-// The composed line of a record that is judged, and what the types of its bytes give. Where the tilemap is off its palette is not read,
-// as one call of `line` with both palettes would have to.
+// The composed line of a record that is judged, and what the types of its bytes give, by which its dots are bounded. Where the tilemap is
+// off its palette is not read, as one call of `line` with both palettes would have to.
 pub fn composed_record(
     bytes: &[u8],
     v: Version,

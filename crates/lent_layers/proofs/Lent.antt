@@ -2,7 +2,7 @@
 -- that the record's length tells, `stored` the reply to the record, `first` what refuses early.
 use Prim.Native.Nat.{ℕ}
 use mathlib.Core.Path.{_≡_, sym, ap, ap₂, _∙_}
-use mathlib.Core.List.{List, [], _∷_}
+use mathlib.Core.List.{List}
 use mathlib.Core.Bool.{true, false}
 use lib.ListN.{length}
 use Rattle.reply.specs.Reply.{isDone}
@@ -17,16 +17,15 @@ use Rattle.record_layout.specs.declared.Version.{Version}
 use Rattle.record_layout.specs.Record.{accepted, stateAs, versionOf, readAs, readRecord}
 use Rattle.record_layout.proofs.Stages.{accepts, done-accepted}
 use Rattle.record_layout.proofs.RoundTrip.{long, state-lawful}
-use Rattle.line_replies.specs.Replies.{lineReply, lengthsReply, drawnIf}
+use Rattle.line_replies.specs.Replies.{drawnIf}
 use Rattle.line_replies.proofs.Exits.{left}
-use Rattle.layer_dots.specs.Numbers.{lentReply}
 use Rattle.lent_drawing.specs.Bounds.{RecordBounds}
-use Rattle.layers.specs.Layers.{layeredLine}
-use Rattle.layers.proofs.Layers.{early-pieces, late-pieces, lengths-known, early-met, refused-late, refused-early}
+use Rattle.layers.specs.Layers.{layeredLine, earlyPieces, latePieces}
+use Rattle.layers.proofs.Layers.{lengths-known, early-met, refused-late, refused-early}
 use Rattle.lent_layers.specs.Lent.{lentLayersReply, lentLayered}
 
 module _ (line : LineNumber) (ula tile dots b layer2 sprites : List ℕ) (v : Version) (told : v ≡ versionOf (length b)) (stored first : Reply) (es : stored ≡ readAs v b .reply)
-    (e : first ≡ firstHit (early-pieces line (length ula) (length tile) (length dots) stored (stateAs v b) layer2 sprites)) where
+    (e : first ≡ firstHit (earlyPieces line (length ula) (length tile) (length dots) (length layer2) (length sprites) stored)) where
   record-is : readAs v b ≡ readRecord b
   unfolding readRecord
   record-is = ap (λ (w : Version). readAs w b) told
@@ -34,26 +33,22 @@ module _ (line : LineNumber) (ula tile dots b layer2 sprites : List ℕ) (v : Ve
   reply-is : readAs v b .reply ≡ readRecord b .reply
   reply-is = ap (λ (a : RecordRead). a .reply) record-is
 
-  abbrev pieces : State → List Reply
-  pieces s = early-pieces line (length ula) (length tile) (length dots) (readRecord b .reply) s layer2 sprites
+  abbrev pieces : Reply → List Reply
+  pieces r = earlyPieces line (length ula) (length tile) (length dots) (length layer2) (length sprites) r
 
-  abbrev after : State → List Reply
-  after s = late-pieces line (length ula) (length tile) (length dots) (readRecord b .reply) s layer2 sprites
-
-  first-is : first ≡ firstHit (pieces (readRecord b .state))
-  first-is =
-      e ∙ ap (λ (r : Reply). firstHit (lineReply line ∷ lengthsReply (length ula) (length tile) (length dots) ∷ lentReply (length layer2) (length sprites) ∷ r ∷ [])) (es ∙ reply-is)
+  first-is : first ≡ firstHit (pieces (readRecord b .reply))
+  first-is = e ∙ ap (λ (r : Reply). firstHit (pieces r)) (es ∙ reply-is)
 
   taken : first ≡ Done → accepted v b ≡ true
   taken z =
-      done-accepted v b (reply-is ∙ early-met line (length ula) (length tile) (length dots) (readRecord b .reply) (readRecord b .state) layer2 sprites (sym first-is ∙ z) .4)
+      done-accepted v b (reply-is ∙ early-met line (length ula) (length tile) (length dots) (length layer2) (length sprites) (readRecord b .reply) (sym first-is ∙ z) .4)
 
   -- what a drawing has met that is not refused early
   pub met : first ≡ Done
       → (RecordBounds v b) × (isLine line ≡ true) × (length ula ≡ 16384) × (length tile ≡ 16384) × (length dots ≡ 640) × (length layer2 ≡ 640) × (length sprites ≡ 640)
   met z =
-      let m = early-met line (length ula) (length tile) (length dots) (readRecord b .reply) (readRecord b .state) layer2 sprites (sym first-is ∙ z) in
-      let n = lengths-known line (length ula) (length tile) (length dots) (readRecord b .reply) (readRecord b .state) layer2 sprites (sym first-is ∙ z) in
+      let m = early-met line (length ula) (length tile) (length dots) (length layer2) (length sprites) (readRecord b .reply) (sym first-is ∙ z) in
+      let n = lengths-known line (length ula) (length tile) (length dots) (length layer2) (length sprites) (readRecord b .reply) (sym first-is ∙ z) in
       let t = taken z in
       (record { long = long v b t; lawful = state-lawful v b t }, m .0, m .1, m .2, m .3, n .0, n .1)
 
@@ -64,12 +59,12 @@ module _ (line : LineNumber) (ula tile dots b layer2 sprites : List ℕ) (v : Ve
   answer = lentLayersReply line (length ula) (length tile) (length dots) b layer2 sprites
 
   -- the record and the lengths are good: what is refused late, or the line
-  pub drawn-judged : (r : Reply) (out : List ℕ) → first ≡ Done → r ≡ firstHit (after (stateAs v b)) → out ≡ drawnIf r (layeredLine (stateAs v b) ula tile layer2 sprites line) dots
+  pub drawn-judged : (r : Reply) (out : List ℕ) → first ≡ Done → r ≡ firstHit (latePieces (stateAs v b) layer2 sprites) → out ≡ drawnIf r (layeredLine (stateAs v b) ula tile layer2 sprites line) dots
       → (r ≡ answer) × (out ≡ lentLayered line ula tile dots b layer2 sprites)
   unfolding lentLayered
   drawn-judged r out z q d =
       let t : r ≡ answer =
-      q ∙ ap (λ (s : State). firstHit (after s)) (sym (state-is z))
+      q ∙ ap (λ (s : State). firstHit (latePieces s layer2 sprites)) (sym (state-is z))
       ∙ sym (refused-late line (length ula) (length tile) (length dots) (readRecord b .reply) (readRecord b .state) layer2 sprites (sym first-is ∙ z)) in
       (t, d ∙ ap₂ (λ (x : Reply) (s : State). drawnIf x (layeredLine s ula tile layer2 sprites line) dots) t (sym (state-is z)))
 

@@ -1,17 +1,16 @@
 // A line of the state in a record with the lent lines; what it shows of the record is read where it stands.
 ghost use mathlib.Core.Path.{_≡_};
 ghost use mathlib.Core.Bool.{true};
-ghost use mathlib.Core.List.{[], _∷_};
 ghost use lib.ListN.{length};
 ghost use Rattle.lists.specs.Search.{all};
 ghost use Rattle.reply.specs.First.{firstHit};
 ghost use Rattle.surface.specs.Lines.{isLine};
 ghost use Rattle.state_bits.specs.Bits.{layerOrder};
 ghost use Rattle.record_layout.specs.Record.{stateAs};
-ghost use Rattle.layer_dots.specs.Numbers.{bothAllowed, isOrder, orderReply, numbersReply};
-ghost use Rattle.line_replies.specs.Replies.{stateReply, drawnIf};
+ghost use Rattle.layer_dots.specs.Numbers.{bothAllowed, isOrder};
+ghost use Rattle.line_replies.specs.Replies.{drawnIf};
 ghost use Rattle.lent_drawing.specs.Bounds.{RecordBounds};
-ghost use Rattle.layers.specs.Layers.{layeredLine};
+ghost use Rattle.layers.specs.Layers.{layeredLine, latePieces};
 ghost use Rattle.lent_layers.specs.Lent.{lentLayersReply, lentLayered};
 use layer_dots::layers_reply;
 use layers::early_reply;
@@ -46,8 +45,7 @@ fn draw_line(
 // What is refused where the record and the lengths are judged: the state, the order, the numbers.
 fn late_reply(bytes: &[u8], v: Version, layer2: &[u16], sprites: &[u16]) -> Reply
     requires { ⌜ (RecordBounds v (now bytes)) × (length (now layer2) ≡ 640) × (length (now sprites) ≡ 640) ⌝ }
-    ensures { λ r. ⌜ r ≡ firstHit (stateReply (stateAs v (now (bytes .entry)) .ula) (stateAs v (now (bytes .entry)) .tiles) (stateAs v (now (bytes .entry)) .palette) (stateAs v (now (bytes .entry)) .ports)
-        ∷ orderReply (stateAs v (now (bytes .entry)) .ula) ∷ numbersReply (now (layer2 .entry)) (now (sprites .entry)) ∷ []) ⌝ }
+    ensures { λ r. ⌜ r ≡ firstHit (latePieces (stateAs v (now (bytes .entry))) (now (layer2 .entry)) (now (sprites .entry))) ⌝ }
 {
     let u = record_groups::ula_at(bytes, v);
     first_of(state_judged(bytes, v), layers_reply(u, layer2, sprites))
@@ -66,8 +64,7 @@ fn draw_judged(
 ) -> Reply
     requires { ⌜ (RecordBounds v (now bytes)) × (isLine line ≡ true) × (length (now ula) ≡ 16384) × (length (now tile) ≡ 16384) × (length (now dots) ≡ 640)
         × (length (now layer2) ≡ 640) × (length (now sprites) ≡ 640) ⌝ }
-    ensures { λ r. ⌜ (r ≡ firstHit (stateReply (stateAs v (now (bytes .entry)) .ula) (stateAs v (now (bytes .entry)) .tiles) (stateAs v (now (bytes .entry)) .palette) (stateAs v (now (bytes .entry)) .ports)
-        ∷ orderReply (stateAs v (now (bytes .entry)) .ula) ∷ numbersReply (now (layer2 .entry)) (now (sprites .entry)) ∷ []))
+    ensures { λ r. ⌜ (r ≡ firstHit (latePieces (stateAs v (now (bytes .entry))) (now (layer2 .entry)) (now (sprites .entry))))
         × (now (dots .exit) ≡ drawnIf r (layeredLine (stateAs v (now (bytes .entry))) (now (ula .entry)) (now (tile .entry)) (now (layer2 .entry)) (now (sprites .entry)) line) (now (dots .entry))) ⌝ }
 {
     let r = late_reply(bytes, v, layer2, sprites);

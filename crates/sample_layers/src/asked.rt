@@ -57,12 +57,20 @@ pub fn ask_order(label: &[u8], order: u8, transparent: u8) {
 pub fn ask_number(label: &[u8], layer2: u16, sprite: u16, order: u8, border: u8) {
     let bank = [0u8; 16384];
     let mut dots = [65535u16; 640];
-    let mut upper = [512u16; 640];
-    let mut lower = [512u16; 640];
-    upper[639] = layer2;
-    lower[639] = sprite;
+    let mut layer2_line = [512u16; 640];
+    let mut sprite_line = [512u16; 640];
+    layer2_line[639] = layer2;
+    sprite_line[639] = sprite;
     let s = screen(order, 0xE3, border);
-    let r = layers::draw_layers(LineNumber(0), &bank, &bank, &upper, &lower, s, &mut dots);
+    let r = layers::draw_layers(
+        LineNumber(0),
+        &bank,
+        &bank,
+        &layer2_line,
+        &sprite_line,
+        s,
+        &mut dots,
+    );
     print_reply(label, reply::number(r));
     print_number(dots[639]);
     report::word(b"\n");

@@ -1,5 +1,5 @@
 // Lines with lent layers: the six orders, over a composed line that shows and over one that is transparent; what each number of a lent
-// line does; and the refusals in their order. After a reply stand dots of the line, 65535 where it is as it was.
+// line does; and what is refused by 3, 4, 19 and 20. After a reply stand dots of the line, 65535 where it is as it was.
 mod asked;
 
 use asked::ask_lengths;
@@ -7,9 +7,9 @@ use asked::ask_number;
 use asked::ask_order;
 
 // $14: a colour that the screen does not have, and the one that it shows, which then is transparent.
-const SHOWN: u8 = 0xE3;
+const OTHER: u8 = 0xE3;
 
-const CLEAR: u8 = 0x1C;
+const SAME: u8 = 0x1C;
 
 fn print_orders(transparent: u8) {
     ask_order(b"000 SLU", 0, transparent);
@@ -24,7 +24,7 @@ fn print_orders(transparent: u8) {
 
 // Bit 0, which shows the sprites of the machine itself, and bits 6, 5 and 1 do not matter.
 fn print_other_bits() {
-    ask_order(b"001 LSU, other bits", 0x67, SHOWN);
+    ask_order(b"001 LSU, other bits", 0x67, OTHER);
 }
 
 fn print_layer2() {
@@ -61,19 +61,19 @@ fn print_lengths() {
 }
 
 // A border of 8 is not lawful.
-fn print_order() {
+fn print_first() {
     ask_number(b"19 before 20", 513, 513, 24, 0);
     ask_number(b"4 before 19", 513, 512, 28, 8);
     ask_number(b"4 before 20", 512, 513, 0, 8);
 }
 
 fn main() {
-    print_orders(SHOWN);
-    print_orders(CLEAR);
+    print_orders(OTHER);
+    print_orders(SAME);
     print_other_bits();
     print_layer2();
     print_sprites();
     print_hidden();
     print_lengths();
-    print_order();
+    print_first();
 }

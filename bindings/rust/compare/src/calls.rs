@@ -286,7 +286,7 @@ impl Banks {
     }
 }
 
-/// The guard is a number that no line has.
+/// The guard is a number that no line may have.
 impl Layers {
     pub fn two(layer2: Vec<u16>, sprites: Vec<u16>) -> Layers {
         Pair::of(vec![layer2, sprites], 0x5A5A)

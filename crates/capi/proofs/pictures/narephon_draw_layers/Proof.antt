@@ -1,4 +1,4 @@
--- The number of the reply that `draw_layers_record` gives, and the bytes that it leaves.
+-- The number of the reply that `draw_layers_record` gives, and the dots that it leaves.
 use mathlib.Core.Path.{ap, _∙_}
 use Rattle.reply.specs.Reply.{replyNumber}
 use borrow.Author.Needs.{needs}

@@ -20,9 +20,9 @@ draw-line-requires : tie.Need-draw-line-requires
 draw-line-requires c κs = let a = c .before .before .before .before .before .before .before .before .before .args in
     let r = c .before .before .before .judge in
     let m = both-met (a .line) (length (a .ula .now)) (length (a .tile .now)) (length (a .out .now)) (lawfulReply (a .s)) (a .s) (a .layer2 .now) (a .sprites .now) (sym (r .ensures) ∙ number-done (r .result) (sym (c .before .before .number .ensures) ∙ c .before .if1 .taken)) in
-    let e = early-met (a .line) (length (a .ula .now)) (length (a .tile .now)) (length (a .out .now)) (lawfulReply (a .s)) (a .s) (a .layer2 .now) (a .sprites .now) (m .0) in
-    let n = lengths-known (a .line) (length (a .ula .now)) (length (a .tile .now)) (length (a .out .now)) (lawfulReply (a .s)) (a .s) (a .layer2 .now) (a .sprites .now) (m .0) in
-    let l = late-met (a .line) (length (a .ula .now)) (length (a .tile .now)) (length (a .out .now)) (lawfulReply (a .s)) (a .s) (a .layer2 .now) (a .sprites .now) (m .1) in
+    let e = early-met (a .line) (length (a .ula .now)) (length (a .tile .now)) (length (a .out .now)) (length (a .layer2 .now)) (length (a .sprites .now)) (lawfulReply (a .s)) (m .0) in
+    let n = lengths-known (a .line) (length (a .ula .now)) (length (a .tile .now)) (length (a .out .now)) (length (a .layer2 .now)) (length (a .sprites .now)) (lawfulReply (a .s)) (m .0) in
+    let l = late-met (a .s) (a .layer2 .now) (a .sprites .now) (m .1) in
     (test-met (lawfulState (a .s)) Done NotLawful refl (e .4) .0, e .0, e .1, e .2, e .3, n .0, n .1, l .0, l .1)
 
 same-length : tie.Need-same-length

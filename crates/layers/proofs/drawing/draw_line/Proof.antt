@@ -1,7 +1,7 @@
 -- The composed line has dots of at most 512, and the lent lines are laid over it.
 use mathlib.Core.Path.{refl}
 use Rattle.record_layout.proofs.Arguments.{argument-typed}
-use Rattle.line_laws.proofs.Claims.{typed-bytes}
+use Rattle.line_laws.proofs.Composed.{typed-bytes}
 use Rattle.layers.proofs.Layers.{row-bounds, line-laid}
 use borrow.Author.Needs.{needs}
 use Rattle.layers.proofs.drawing.draw_line.Statement.{statement}

@@ -24,8 +24,8 @@ first-of-requires-3 : tie.Need-first-of-requires-3
 first-of-requires-3 c κs = search needs
 
 returns : tie.Need-returns
-returns c = let lent = c .before .before .before .before .before .before .args .lent in
-    let last = next-hit _ _ _ _ _ (c .before .before .before .before .before .lent-reply .ensures) (last-hit lent lent refl) (c .before .before .before .before .first-of .ensures) in
+returns c = let own = c .before .before .before .before .before .before .args .state in
+    let last = next-hit _ _ _ _ _ (c .before .before .before .before .before .lent-reply .ensures) (last-hit own own refl) (c .before .before .before .before .first-of .ensures) in
     next-hit _ _ _ _ _ (c .before .before .before .line-reply .ensures) (next-hit _ _ _ _ _ (c .before .before .lengths-reply .ensures) last (c .before .first-of2 .ensures)) (c .first-of3 .ensures)
 
 pub early-reply-spec : {M : Type 1} → statement M

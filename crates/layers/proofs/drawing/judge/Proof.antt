@@ -1,4 +1,5 @@
 -- What is refused early is the answer; else what is refused late, of lines whose lengths are known.
+use lib.ListN.{length}
 use mathlib.Core.Path.{sym, ap, _∙_}
 use Rattle.reply.specs.Reply.{isDone}
 use Rattle.reply.specs.First.{firstHit}
@@ -6,7 +7,8 @@ use Rattle.reply.specs.declared.Reply.{Reply}
 use Rattle.reply.proofs.Done.{number-done, not-done}
 use Rattle.reply.proofs.Order.{next-hit}
 use Rattle.state.specs.Lawful.{lawfulReply}
-use Rattle.layers.proofs.Layers.{early-pieces, lengths-known, refused-late, refused-early}
+use Rattle.layers.specs.Layers.{earlyPieces}
+use Rattle.layers.proofs.Layers.{lengths-known, refused-late, refused-early}
 use borrow.Author.Needs.{needs}
 use Rattle.layers.proofs.drawing.judge.Statement.{statement}
 use Rattle.layers.proofs.drawing.judge.Tie as tie
@@ -27,8 +29,8 @@ layers-reply-requires : tie.Need-layers-reply-requires
 layers-reply-requires c κs = let a = c .before .before .before .before .before .before .before .args in
     let early = c .before .before .before .early-reply in
     let lawful = c .before .before .before .before .lawful-reply in
-    let e = early .ensures ∙ ap (λ (r : Reply). firstHit (early-pieces (a .line) (a .ula) (a .tile) (a .out) r (a .s) (a .layer2 .now) (a .sprites .now))) (lawful .ensures) in
-    lengths-known (a .line) (a .ula) (a .tile) (a .out) (lawfulReply (a .s)) (a .s) (a .layer2 .now) (a .sprites .now) (sym e ∙ number-done (early .result) (sym (c .before .before .number .ensures) ∙ c .before .if1 .taken))
+    let e = early .ensures ∙ ap (λ (r : Reply). firstHit (earlyPieces (a .line) (a .ula) (a .tile) (a .out) (length (a .layer2 .now)) (length (a .sprites .now)) r)) (lawful .ensures) in
+    lengths-known (a .line) (a .ula) (a .tile) (a .out) (length (a .layer2 .now)) (length (a .sprites .now)) (lawfulReply (a .s)) (sym e ∙ number-done (early .result) (sym (c .before .before .number .ensures) ∙ c .before .if1 .taken))
 
 first-of-requires : tie.Need-first-of-requires
 first-of-requires c κs = search needs
@@ -37,7 +39,7 @@ returns : tie.Need-returns
 returns c = let a = c .before .before .before .before .before .before .before .before .before .args in
     let early = c .before .before .before .before .before .early-reply in
     let lawful = c .before .before .before .before .before .before .lawful-reply in
-    let e = early .ensures ∙ ap (λ (r : Reply). firstHit (early-pieces (a .line) (a .ula) (a .tile) (a .out) r (a .s) (a .layer2 .now) (a .sprites .now))) (lawful .ensures) in
+    let e = early .ensures ∙ ap (λ (r : Reply). firstHit (earlyPieces (a .line) (a .ula) (a .tile) (a .out) (length (a .layer2 .now)) (length (a .sprites .now)) r)) (lawful .ensures) in
     let d = sym e ∙ number-done (early .result) (sym (c .before .before .before .before .number .ensures) ∙ c .before .before .before .if1 .taken) in
     next-hit _ _ _ _ _ (c .before .before .state-reply .ensures) (c .before .layers-reply .ensures) (c .first-of .ensures)
     ∙ sym (refused-late (a .line) (a .ula) (a .tile) (a .out) (lawfulReply (a .s)) (a .s) (a .layer2 .now) (a .sprites .now) d)
@@ -46,7 +48,7 @@ returns-2 : tie.Need-returns-2
 returns-2 c = let a = c .before .before .before .before .before .before .args in
     let early = c .before .before .early-reply in
     let lawful = c .before .before .before .lawful-reply in
-    let e = early .ensures ∙ ap (λ (r : Reply). firstHit (early-pieces (a .line) (a .ula) (a .tile) (a .out) r (a .s) (a .layer2 .now) (a .sprites .now))) (lawful .ensures) in
+    let e = early .ensures ∙ ap (λ (r : Reply). firstHit (earlyPieces (a .line) (a .ula) (a .tile) (a .out) (length (a .layer2 .now)) (length (a .sprites .now)) r)) (lawful .ensures) in
     let z = not-done (c .before .number .result) (early .result) (c .before .number .ensures) (c .if1 .left) in
     e ∙ sym (refused-early (a .line) (a .ula) (a .tile) (a .out) (lawfulReply (a .s)) (a .s) (a .layer2 .now) (a .sprites .now) (ap isDone (sym e) ∙ z))
 

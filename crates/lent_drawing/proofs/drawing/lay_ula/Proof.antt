@@ -1,4 +1,5 @@
--- The groups that the ULA shows are read of the record, and its dots are those of the state in it.
+-- The groups that the ULA shows are read of the record, and its dots are those of the state in it. That their bytes are below 256 is read
+-- of their types.
 use Prim.Native.Nat.{ℕ, _<_}
 use native.Mathlib.Omega.{arith}
 use mir.Syntax.{w8}

@@ -1,7 +1,5 @@
 -- What is refused late is the answer; a line that is not refused is drawn.
 use mathlib.Core.Path.{refl, sym, _∙_}
-use lib.ListN.{length}
-use Rattle.reply.specs.declared.Reply.the-variants.{Done}
 use Rattle.reply.proofs.Done.{number-done, done-is, not-done}
 use Rattle.record_layout.specs.Record.{stateAs}
 use Rattle.line_replies.proofs.Exits.{drawn, left}
@@ -21,7 +19,7 @@ draw-line-requires c κs = let s = c .before .before .before .before .before .be
     let a = s .args in
     let p = s .pre in
     let r = c .before .before .before .late-reply in
-    let l = late-met (a .line) (length (a .ula .now)) (length (a .tile .now)) (length (a .dots .now)) Done (stateAs (a .v) (a .bytes .now)) (a .layer2 .now) (a .sprites .now) (sym (r .ensures) ∙ number-done (r .result) (sym (c .before .before .number .ensures) ∙ c .before .if1 .taken)) in
+    let l = late-met (stateAs (a .v) (a .bytes .now)) (a .layer2 .now) (a .sprites .now) (sym (r .ensures) ∙ number-done (r .result) (sym (c .before .before .number .ensures) ∙ c .before .if1 .taken)) in
     (p .0, p .1, p .2, p .3, p .4, p .5, p .6, l .0, l .1)
 
 same-length : tie.Need-same-length
