@@ -23,7 +23,7 @@ layer2-excess n a t e ea et ee = go (leb n 512) (leb 1024 n) (leb n 1535) refl r
     go false true false p q r = ne-eqb e 0 (λ h. omega (arith, leb-false n 1535 r))
     go false false z p q r = ne-eqb e 0 (λ h. omega (arith, leb-false n 512 p, leb-false 1024 n q))
 
-pub sprite-excess : (n e : ℕ) → e ≡ n - 512 → eqb e 0 ≡ spriteAllowed n
+sprite-excess : (n e : ℕ) → e ≡ n - 512 → eqb e 0 ≡ spriteAllowed n
 sprite-excess n e ee = go (leb n 512) refl
   where
     go : (x : Bool) → leb n 512 ≡ x → eqb e 0 ≡ x
@@ -31,7 +31,7 @@ sprite-excess n e ee = go (leb n 512) refl
     go false p = ne-eqb e 0 (λ h. omega (arith, leb-false n 512 p))
 
 -- two numbers together are 0 where each is
-pub or-none : (a b : ℕ) → eqb (bitOr a b) 0 ≡ (eqb a 0 && eqb b 0)
+or-none : (a b : ℕ) → eqb (bitOr a b) 0 ≡ (eqb a 0 && eqb b 0)
 or-none a b = go (eqb a 0) (eqb b 0) refl refl
   where
     some : bitOr a b ≡ 0 → a + b ≡ 0

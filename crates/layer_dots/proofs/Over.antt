@@ -1,5 +1,5 @@
 -- Three dots laid over each other by their numbers are the layered dot: transparent is the least number, a priority dot the greatest,
--- and what is laid has no bit 9. By the place of Layer 2 among the three, then by the six orders.
+-- and what is laid has no bit 9. By where Layer 2 is among the three, then by the six orders.
 use Prim.Native.Nat.{ℕ, zero, suc, _+_, _-_, _/_, _%_, _≤_, _<_}
 use mathlib.Core.Path.{_≡_, refl, ap, _∙_}
 use mathlib.Core.Bool.{Bool, true, false, cond, _&&_, _||_}
@@ -9,6 +9,7 @@ use borrow.Author.Tests.{eqb-true, eqb-false, ltb-false, leb-true, lt-ltb, le-lt
 use Rattle.lists.proofs.Cond.{if-true, if-false, either}
 use Rattle.lists.proofs.Search.{not-both}
 use Rattle.surface.specs.Dots.{topDot}
+use Rattle.line_dots.proofs.Finished.{finished-most}
 use Rattle.layer_dots.specs.Orders.{topShown, isPriority, layeredDot}
 use Rattle.layer_dots.specs.Numbers.{layer2Allowed}
 use Rattle.layer_dots.specs.Laid.{toggled, greater, untagged, over, threeOver, levelOver}
@@ -62,14 +63,6 @@ module _ (x : ℕ) (h : x ≤ 512) where
       go true e = ap (λ (n : ℕ). over n below) (eqb-true x 512 e) ∙ over-none below (omega arith)
       go false e = over-colour x below (omega (arith, eqb-false x 512 e)) g
 
-  top-most : (below : ℕ) → below ≤ 511 → topDot x below ≤ 511
-  unfolding topDot
-  top-most below g = go (eqb x 512) refl
-    where
-      go : (b : Bool) → eqb x 512 ≡ b → cond b below x ≤ 511
-      go true e = g
-      go false e = omega (arith, eqb-false x 512 e)
-
   over-under : (p : ℕ) → 1024 ≤ p → p ≤ 1535 → over x p ≡ p
   over-under p g m = go (eqb x 512) refl
     where
@@ -98,11 +91,11 @@ module _ (fallback : ℕ) (hf : fallback ≤ 511) where
   unfolding threeOver
   three-plain x y z hx hy hz =
       let ez = over-top z hz fallback hf in
-      let mz = top-most z hz fallback hf in
+      let mz = finished-most z fallback hz hf in
       let ey = ap (over y) ez ∙ over-top y hy (topDot z fallback) mz in
-      let my = top-most y hy (topDot z fallback) mz in
+      let my = finished-most y (topDot z fallback) hy mz in
       let ex = ap (over x) ey ∙ over-top x hx (topDot y (topDot z fallback)) my in
-      let mx = top-most x hx (topDot y (topDot z fallback)) my in
+      let mx = finished-most x (topDot y (topDot z fallback)) hx my in
       ap (λ (n : ℕ). n % 512) ex ∙ omega arith
 
   -- its colour is what is left of a priority dot
@@ -110,35 +103,31 @@ module _ (fallback : ℕ) (hf : fallback ≤ 511) where
   colour-left p n g m e = omega arith
 
   module _ (l : ℕ) (a : layer2Allowed l ≡ true) where
-    first : (y z : ℕ) → y ≤ 512 → z ≤ 512 → threeOver l y z fallback ≡ cond (isPriority l) (l - 1024) (top3 l y z)
+    -- whichever of them is Layer 2's: what is left of it at the top where it has priority, and else the topmost
+    lent-three : (x y z : ℕ) → (l ≤ 512 → (x ≤ 512) × (y ≤ 512) × (z ≤ 512)) → (1024 ≤ l → l ≤ 1535 → over x (over y (over z fallback)) ≡ l)
+        → threeOver x y z fallback ≡ cond (isPriority l) (l - 1024) (top3 x y z)
     unfolding threeOver
+    lent-three x y z plain prior =
+        by-priority (λ b. threeOver x y z fallback ≡ cond b (l - 1024) (top3 x y z)) l a (λ g m. colour-left l _ g m (prior g m))
+        (λ h. let p = plain h in three-plain x y z (p .0) (p .1) (p .2))
+
+    first : (y z : ℕ) → y ≤ 512 → z ≤ 512 → threeOver l y z fallback ≡ cond (isPriority l) (l - 1024) (top3 l y z)
     first y z hy hz =
-        by-priority (λ b. threeOver l y z fallback ≡ cond b (l - 1024) (top3 l y z)) l a
-        (λ g m.
-        let ez = over-top z hz fallback hf in
-        let ey = ap (over y) ez ∙ over-top y hy (topDot z fallback) (top-most z hz fallback hf) in
-        let my = top-most y hy (topDot z fallback) (top-most z hz fallback hf) in
-        colour-left l _ g m (ap (over l) ey ∙ over-priority l (topDot y (topDot z fallback)) g m my))
-        (λ h. three-plain l y z h hy hz)
+        let mz = finished-most z fallback hz hf in
+        let ey = ap (over y) (over-top z hz fallback hf) ∙ over-top y hy (topDot z fallback) mz in
+        lent-three l y z (λ h. (h, hy, hz)) (λ g m. ap (over l) ey ∙ over-priority l (topDot y (topDot z fallback)) g m (finished-most y (topDot z fallback) hy mz))
 
     second : (x z : ℕ) → x ≤ 512 → z ≤ 512 → threeOver x l z fallback ≡ cond (isPriority l) (l - 1024) (top3 x l z)
-    unfolding threeOver
     second x z hx hz =
-        by-priority (λ b. threeOver x l z fallback ≡ cond b (l - 1024) (top3 x l z)) l a
-        (λ g m.
-        let ez = over-top z hz fallback hf in
-        let el = ap (over l) ez ∙ over-priority l (topDot z fallback) g m (top-most z hz fallback hf) in
-        colour-left l _ g m (ap (over x) el ∙ over-under x hx l g m))
-        (λ h. three-plain x l z hx h hz)
+        lent-three x l z (λ h. (hx, h, hz)) (λ g m.
+        let el = ap (over l) (over-top z hz fallback hf) ∙ over-priority l (topDot z fallback) g m (finished-most z fallback hz hf) in
+        ap (over x) el ∙ over-under x hx l g m)
 
     third : (x y : ℕ) → x ≤ 512 → y ≤ 512 → threeOver x y l fallback ≡ cond (isPriority l) (l - 1024) (top3 x y l)
-    unfolding threeOver
     third x y hx hy =
-        by-priority (λ b. threeOver x y l fallback ≡ cond b (l - 1024) (top3 x y l)) l a
-        (λ g m.
+        lent-three x y l (λ h. (hx, hy, h)) (λ g m.
         let ey = ap (over y) (over-priority l fallback g m hf) ∙ over-under y hy l g m in
-        colour-left l _ g m (ap (over x) ey ∙ over-under x hx l g m))
-        (λ h. three-plain x y l hx hy h)
+        ap (over x) ey ∙ over-under x hx l g m)
 
     -- ---- the six orders
 

@@ -1,2 +1,3 @@
+pub mod Finished
 pub mod Rest
 pub mod Shaded

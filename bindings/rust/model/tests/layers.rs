@@ -2,7 +2,7 @@
 
 mod common;
 
-use common::{bank, counting, dots, old_record_of, record_of, timex, FALLBACK};
+use common::{all_at_once, bank, counting, dots, old_record_of, record_of, timex, FALLBACK};
 use model::layers::{lent_draw_layers, order, Layer, LentDot};
 use model::{draw_layers, LentLines, State, DOTS};
 
@@ -223,18 +223,6 @@ fn bad_numbers() {
             assert_eq!(refused(&Lent::of(&[(place, 1_024, 1_024)]), &state), 20);
         }
     }
-}
-
-/// A lawful state that every refusal but 6 fits: ULANext and ULAplus (7), no such
-/// mode (5), X offset (8), no order (19).
-fn all_at_once() -> State {
-    let mut state = timex(7);
-    state.layers = 0b0001_1000;
-    state.palette_control = 1;
-    state.plus_on = true;
-    state.tile_control = 0x80;
-    state.tile_x_high = 3;
-    state
 }
 
 /// Rule 10.13: 1, 2, 3, 4, 6, 7, 5, 8, 19, 20.

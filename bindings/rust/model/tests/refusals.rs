@@ -2,8 +2,7 @@
 
 mod common;
 
-use common::{bank, counting, dots, refused, timex};
-use model::State;
+use common::{all_at_once, bank, counting, dots, refused, timex};
 
 #[test]
 fn lengths() {
@@ -73,23 +72,12 @@ fn not_lawful() {
     assert_eq!(refused(0, &good, &good, &state, 640), 4);
 }
 
-/// A state that every state refusal but 6 fits: not lawful (4), ULANext and
-/// ULAplus (7), no such mode (5), X offset (8).
-fn all_at_once() -> State {
-    let mut state = timex(7);
-    state.border = 8;
-    state.palette_control = 1;
-    state.plus_on = true;
-    state.tile_control = 0x80;
-    state.tile_x_high = 3;
-    state
-}
-
 #[test]
 fn the_order() {
     let good = bank(&[]);
     let bad = vec![0; 5];
     let mut state = all_at_once();
+    state.border = 8;
     assert_eq!(refused(256, &bad, &bad, &state, 5), 1);
     assert_eq!(refused(255, &good, &bad, &state, 5), 2);
     assert_eq!(refused(255, &good, &good, &state, 5), 3);

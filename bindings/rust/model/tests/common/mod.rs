@@ -38,6 +38,18 @@ pub fn timex(value: u8) -> State {
     state
 }
 
+/// A lawful state that every refusal but 6 fits: ULANext and ULAplus (7), no such
+/// mode (5), X offset (8), and for lent layers no order (19).
+pub fn all_at_once() -> State {
+    let mut state = timex(7);
+    state.layers = 0b0001_1000;
+    state.palette_control = 1;
+    state.plus_on = true;
+    state.tile_control = 0x80;
+    state.tile_x_high = 3;
+    state
+}
+
 /// The record of a lawful state.
 pub fn record_of(state: &State) -> Vec<u8> {
     let mut bytes = vec![0xAA; RECORD_LENGTH];
