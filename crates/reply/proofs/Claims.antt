@@ -6,7 +6,7 @@ use native.Mathlib.Omega.{arith}
 use Rattle.reply.specs.Reply.{replyNumber}
 use Rattle.reply.specs.Claims.{NumberTells, NoThirteen}
 use Rattle.reply.specs.declared.Reply.{Reply}
-use Rattle.reply.specs.declared.Reply.the-variants.{Done, NoLine, BankLength, BufferLength, NotLawful, NoMode, LoresWithTiles, NextWithPlus, FarOffset, NoRegister, OutOfBounds, TooManyTiles, PackingBounds, NoForm, PairsDiffer, WrongCount, WrongVersion, BadField, NoOrder, BadDot}
+use Rattle.reply.specs.declared.Reply.the-variants.{Done, NoLine, BankLength, BufferLength, NotLawful, NoMode, LoresWithTiles, NextWithPlus, FarOffset, NoRegister, OutOfBounds, TooManyTiles, PackingBounds, NoForm, PairsDiffer, WrongCount, WrongVersion, BadField, NoOrder, BadDot, BadDesk, AlreadyOpen, NotOpen, DeskFull}
 
 -- the member of a list at a number
 at : List Reply → ℕ → Reply
@@ -37,6 +37,10 @@ replies =
     ∷ BadField
     ∷ NoOrder
     ∷ BadDot
+    ∷ BadDesk
+    ∷ AlreadyOpen
+    ∷ NotOpen
+    ∷ DeskFull
     ∷ []
 
 found : (r : Reply) → at replies (replyNumber r) ≡ r
@@ -61,6 +65,10 @@ found WrongVersion = refl
 found BadField = refl
 found NoOrder = refl
 found BadDot = refl
+found BadDesk = refl
+found AlreadyOpen = refl
+found NotOpen = refl
+found DeskFull = refl
 
 pub numberTells : NumberTells
 numberTells a b e = sym (found a) ∙ ap (at replies) e ∙ found b

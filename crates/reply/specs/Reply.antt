@@ -3,7 +3,7 @@ use Prim.Native.Nat.{ℕ}
 use mathlib.Core.Bool.{Bool}
 use lib.Dec.{eqb}
 use Rattle.reply.specs.declared.Reply.{Reply}
-use Rattle.reply.specs.declared.Reply.the-variants.{Done, NoLine, BankLength, BufferLength, NotLawful, NoMode, LoresWithTiles, NextWithPlus, FarOffset, NoRegister, OutOfBounds, TooManyTiles, PackingBounds, NoForm, PairsDiffer, WrongCount, WrongVersion, BadField, NoOrder, BadDot}
+use Rattle.reply.specs.declared.Reply.the-variants.{Done, NoLine, BankLength, BufferLength, NotLawful, NoMode, LoresWithTiles, NextWithPlus, FarOffset, NoRegister, OutOfBounds, TooManyTiles, PackingBounds, NoForm, PairsDiffer, WrongCount, WrongVersion, BadField, NoOrder, BadDot, BadDesk, AlreadyOpen, NotOpen, DeskFull}
 
 -- the number of each row of the table
 abbrev pub replyNumber : Reply → ℕ
@@ -48,6 +48,14 @@ replyNumber BadField = 18
 replyNumber NoOrder = 19
 -- a number of a lent line that is not allowed
 replyNumber BadDot = 20
+-- a desk of the wrong length, a seat not of its form, or a number seated twice
+replyNumber BadDesk = 21
+-- open, where the number already has a seat
+replyNumber AlreadyOpen = 22
+-- any other call on a desk, where the number has no seat
+replyNumber NotOpen = 23
+-- open, where all sixteen seats are held
+replyNumber DeskFull = 24
 
 -- a reply that refuses nothing
 abbrev pub isDone : Reply → Bool

@@ -29,6 +29,10 @@ pub enum Reply {
     BadField,
     NoOrder,
     BadDot,
+    BadDesk,
+    AlreadyOpen,
+    NotOpen,
+    DeskFull,
 }
 
 // The paper's number of a reply. 13 is retired: 16, 17 and 18 stand in its place.
@@ -56,5 +60,9 @@ pub fn number(r: Reply) -> u8
         Reply::BadField => 18,
         Reply::NoOrder => 19,
         Reply::BadDot => 20,
+        Reply::BadDesk => 21,
+        Reply::AlreadyOpen => 22,
+        Reply::NotOpen => 23,
+        Reply::DeskFull => 24,
     }
 }
