@@ -6,7 +6,7 @@ ghost use Rattle.capi.specs.Packed.{LentPacked, LentFewest};
 ghost use lib.ListN.{length};
 ghost use Rattle.lent_drawing.specs.Drawn.{lentDrawReply, lentDrawn};
 ghost use Rattle.lent_layers.specs.Lent.{lentLayersReply, lentLayered};
-ghost use Rattle.capi.specs.Lines.{numbered};
+ghost use Rattle.surface.specs.Lines.{numbered};
 use lent_layers::draw_layers_record;
 use reply::number;
 use surface::LineNumber;

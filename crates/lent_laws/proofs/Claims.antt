@@ -47,7 +47,7 @@ use Rattle.lent_laws.specs.Claims.{ChangeReadsBack, NeverNotLawful, OldL
 use Rattle.lent_laws.proofs.NotFour.{NotFour, other, read-not-four, record-not-four}
 
 -- every change keeps a lawful and typed state so
-change-keeps : (c : Change) (s : State) → ByteWritten c → Typed s → lawfulState s ≡ true
+pub change-keeps : (c : Change) (s : State) → ByteWritten c → Typed s → lawfulState s ≡ true
     → (lawfulState (changed c s .state) ≡ true) × Typed (changed c s .state)
 unfolding LawfulStays
 change-keeps NextFrame s b t h = frameLawful s h t

@@ -6,3 +6,5 @@ pub mod Cuts
 pub mod Placed
 pub mod Cond
 pub mod Chain
+pub mod Loops
+pub mod Bytes

@@ -9,6 +9,7 @@ use native.Mathlib.Nat.{add-assoc}
 use lib.ListN.{length, getD, take, drop, replicate, length-append, length-replicate}
 use lib.Seq.{getD-take, getD-drop, take-at, drop-at}
 use Rattle.lists.specs.Bytes.{Bytes}
+use Rattle.lists.proofs.Bytes.{bytes-append, bytes-zeros}
 use Rattle.tilemap_entries.specs.Entries.{fetched, entryAddress, highOf, entryAt, tileNumber}
 use Rattle.tilemap_turns.specs.Turns.{turnOf, columnOf, halfOf}
 use Rattle.tilemap_rule.specs.Index.{pixelAt, entryPixel, tileIndex}
@@ -59,20 +60,6 @@ module _ (map defs bank : List ℕ) (attribute mb db : ℕ) (s : SetIn map defs 
       (ap (λ (b : ℕ). highByte map c / 16 * 16 + halfOf (columnOf t (x % 8) (y % 8)) b)
       (definition-at (lowByte map c) _ _ (low-small c l) (column-small t (x % 8) (y % 8) kx ky) (row-small t (x % 8) (y % 8) kx ky)))
 
-pub bytes-append : (xs ys : List ℕ) → Bytes xs → Bytes ys → Bytes (xs ++ ys)
-bytes-append [] ys hx hy i = hy i
-bytes-append (x ∷ xs) ys hx hy zero = hx 0
-bytes-append (x ∷ xs) ys hx hy (suc i) = bytes-append xs ys (λ j. hx (suc j)) hy i
-
-pub bytes-one : (x : ℕ) → x < 256 → Bytes (x ∷ [])
-bytes-one x h zero = h
-bytes-one x h (suc i) = omega arith
-
-bytes-zero : (n : ℕ) → Bytes (replicate n 0)
-bytes-zero zero i = omega arith
-bytes-zero (suc n) zero = omega arith
-bytes-zero (suc n) (suc i) = bytes-zero n i
-
 -- the map at 0, the definitions right after it, and zeros
 pub setting : (map defs : List ℕ) → length map ≡ 2560 → length defs ≡ 8192 → Bytes map → Bytes defs → Setting map defs
 setting map defs lm ld bm bd =
@@ -82,7 +69,7 @@ setting map defs lm ld bm bd =
       defBase = 2560;
       set = record {
         bank-length = omega (arith, length-append map (defs ++ replicate 5632 0), length-append defs (replicate 5632 0), length-replicate {A = ℕ} 5632 0);
-        bank-bytes = bytes-append map _ bm (bytes-append defs _ bd (bytes-zero 5632));
+        bank-bytes = bytes-append map _ bm (bytes-append defs _ bd (bytes-zeros 5632));
         map-page = refl;
         def-page = refl;
         map-fits = omega arith;

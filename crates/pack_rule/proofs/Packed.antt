@@ -21,7 +21,8 @@ use Rattle.pack_classes.proofs.Cells.{Shows, pixel-half, turned-is}
 use Rattle.pack_rule.specs.Sheet.{lowByte, highByte, named, sheetIndex}
 use Rattle.pack_rule.specs.Greedy.{firstMaker, defCells, tileCount, tileOf, sourceOf, cellTurn, mapByte, defByte, packedMap, packedDefs}
 use Rattle.pack_rule.specs.Answer.{Setting, Fewest}
-use Rattle.pack_rule.proofs.Banked.{read, setting, bytes-append, bytes-one}
+use Rattle.lists.proofs.Bytes.{bytes-none, bytes-one-more, bytes-append}
+use Rattle.pack_rule.proofs.Banked.{read, setting}
 use Rattle.pack_rule.proofs.Lower.{Direct, direct, defPixel, lower}
 use Rattle.pack_rule.proofs.Greedy.{grows, keeps, cells-below, source, turn-for, old, counted, tile-of-def}
 
@@ -32,7 +33,7 @@ cond-below false x y h k = k
 bytes-tab : (f : ℕ → ℕ) (n : ℕ) → ((i : ℕ) → i < n → f i < 256) → Bytes (tab f n)
 unfolding tab
 bytes-tab f zero h = λ i. omega arith
-bytes-tab f (suc n) h = bytes-append (tab f n) (f n ∷ []) (bytes-tab f n (λ i l. h i (omega (arith, l)))) (bytes-one (f n) (h n (omega arith)))
+bytes-tab f (suc n) h = bytes-append (tab f n) (f n ∷ []) (bytes-tab f n (λ i l. h i (omega (arith, l)))) (bytes-one-more (f n) [] (h n (omega arith)) bytes-none)
 
 module _ (pic : List ℕ) (offset : ℕ) where
   pub tile-number : (c : ℕ) → c < 1280 → lowByte (packedMap pic offset) c ≡ tileOf pic c

@@ -4,6 +4,10 @@ use mathlib.Core.Bool.{Bool, _&&_}
 use lib.Dec.{leb}
 use Rattle.surface.specs.declared.lines.LineNumber.{LineNumber}
 
+-- the line of a number, which a call in another language gives
+abbrev pub numbered : ℕ → LineNumber
+numbered n = record { 0 = n }
+
 -- one line, 0 to 255
 abbrev pub isLine : LineNumber → Bool
 isLine l = leb (l .0) 255
