@@ -1,0 +1,3 @@
+mod Started
+pub mod Judged
+pub mod Found

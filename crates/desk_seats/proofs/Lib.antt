@@ -1,0 +1,3 @@
+mod Taken
+pub mod Cuts
+pub mod Tests
