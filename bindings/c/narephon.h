@@ -1,14 +1,14 @@
-/* Narephon: ZX Spectrum Next lines, registers, records, screen files and tile
- * packing.
+/* Narephon: ZX Spectrum Next lines, registers, records, desks, screen files and
+ * tile packing.
  *
  * A member's whole video state is a record of NAREPHON_RECORD bytes that the
  * caller keeps and lends. Every call ends with an answer on every input and
  * returns a reply number (NAREPHON_DONE is 0). On a refusal `*value`, `*count`,
- * `*colours` and `*length` are set to 0, and the record and every other buffer
- * stay as they were. `*place` is set always: to the place in the record that 16,
- * 17 or 18 tells, counted from 0, and to 0 by every other reply. Later versions
- * may answer with numbers that are not in this header: a caller takes any number
- * but 0 for a refusal.
+ * `*colours` and `*length` are set to 0, and the record, the desk and every other
+ * buffer stay as they were. `*place` is set always: to the place in the record
+ * that 16, 17 or 18 tells, counted from 0, and to 0 by every other reply. Later
+ * versions may answer with numbers that are not in this header: a caller takes
+ * any number but 0 for a refusal.
  *
  * Records are made in version 2. One of version 1, which libraries before 0.3.0
  * made, is an old record of NAREPHON_OLD_RECORD bytes: it lacks registers $26
@@ -19,17 +19,23 @@
  * `record_len` of a stored record is the length it was stored with: an old one
  * lent as the whole of a buffer of NAREPHON_RECORD bytes is 16 to every call.
  *
+ * A desk is one buffer of many members' records: NAREPHON_DESK bytes that the
+ * caller keeps and lends, from which a call takes the record of the member that
+ * it names by number. The calls on a desk, narephon_desk_*, are the last of this
+ * header, and what a desk is stands before them.
+ *
  * A buffer is a pointer and its number of elements. A pointer is not null,
  * also where the number is 0. What is lent for reading may overlap: `ula` and
  * `tile` may be the same pointer, and so may `layer2` and `sprites`. What is
- * lent for writing (the record of a call that changes it, the `target` of a
- * move, the bank that a screen file is read into, the file that one is written
- * into, `dots`, `map`, `definitions`, and `value`, `count`, `colours`, `length`
- * and `place` too) overlaps nothing else that the call is given.
+ * lent for writing (the record or the desk of a call that changes it, the
+ * `target` of a move, the bank that a screen file is read into, the file that one
+ * is written into, `dots`, `map`, `definitions`, and `value`, `count`, `colours`,
+ * `length` and `place` too) overlaps nothing else that the call is given.
  *
  * The library keeps nothing between calls and has no data of its own that it
  * writes. Calls may run side by side in several threads as long as none writes
- * to a buffer that another one is given.
+ * to a buffer that another one is given. A desk is one buffer for all its members:
+ * it is written by one call at a time, whoever's, and not read by another then.
  */
 #ifndef NAREPHON_H
 #define NAREPHON_H
@@ -42,9 +48,9 @@ extern "C" {
 #endif
 
 /* The version of this header and of the library that it is delivered with. */
-#define NAREPHON_VERSION "0.5.0"
+#define NAREPHON_VERSION "0.6.0"
 #define NAREPHON_VERSION_MAJOR 0
-#define NAREPHON_VERSION_MINOR 5
+#define NAREPHON_VERSION_MINOR 6
 #define NAREPHON_VERSION_PATCH 0
 
 /* Lengths, in elements. */
@@ -56,6 +62,10 @@ extern "C" {
 #define NAREPHON_MAP 2560
 #define NAREPHON_DEFINITIONS 8192
 #define NAREPHON_SCREEN 12353
+#define NAREPHON_DESK 34480
+
+/* The seats of a desk. */
+#define NAREPHON_SEATS 16
 
 /* Numbers of a lent line, besides the colours 0 to 511: a transparent dot, and
  * what is added to the colour of a Layer 2 dot that has priority. */
@@ -84,12 +94,16 @@ enum narephon_reply {
     NAREPHON_WRONG_VERSION = 17,   /* the record's version is not read here, or is not the one of its length */
     NAREPHON_BAD_FIELD = 18,       /* a field of the record is out of its bounds */
     NAREPHON_NO_ORDER = 19,        /* $15 bits 4-2 are 110 or 111, which is no order of the layers */
-    NAREPHON_BAD_DOT = 20          /* a number of the Layer 2 line or of the sprite line is not allowed */
+    NAREPHON_BAD_DOT = 20,         /* a number of the Layer 2 line or of the sprite line is not allowed */
+    NAREPHON_BAD_DESK = 21,        /* the desk has the wrong length, a seat that is not of its form, or a number seated twice */
+    NAREPHON_ALREADY_OPEN = 22,    /* the member already has a seat */
+    NAREPHON_NOT_OPEN = 23,        /* the member has no seat */
+    NAREPHON_DESK_FULL = 24        /* all sixteen seats are held */
 };
 
 /* Below, "replies" are the refusals of a call in the order in which they are
  * judged: where several hold, the first is given. No call gives 4: a state is
- * always lent as a record, and a record of an unlawful state is 18.
+ * always lent as a record, and a record of an unlawful state is 18, on a desk 21.
  *
  * Where a call reads its record, 16, 17 and 18 stand together. 16 tells place 0,
  * the stated number: two bytes, high first. 17 tells place 2, the version. 18
@@ -230,6 +244,67 @@ uint8_t narephon_pack(const uint8_t *picture, size_t picture_len,
  * Replies: 3, 11.
  * A refusal sets `*count` to 0. */
 uint8_t narephon_fewest(const uint8_t *picture, size_t picture_len, uint32_t *count);
+
+/* A desk has NAREPHON_SEATS seats of 2,155 bytes, one after the other. A free seat
+ * is all 0. A held seat is a byte 1, its member's number in two bytes, high first,
+ * and its member's record of version 2, one that narephon_check_record accepts. A
+ * number is any of 16 bits, 0 too, and no number holds two seats.
+ *
+ * `desk_len` is NAREPHON_DESK. Every call below but narephon_desk_start judges the
+ * whole desk, the seats of others too, and where it is not of this form it is 21:
+ * 16, 17 and 18 do not come. No call puts a stored record on a desk: such a record
+ * is served by the calls above. */
+
+/* Makes all bytes of `desk` 0, whatever they were: every seat is free.
+ * Replies: 3.
+ * A refusal leaves `desk` as it was. */
+uint8_t narephon_desk_start(uint8_t *desk, size_t desk_len);
+
+/* Gives `member` the first free seat, with the record of the reset state. A member
+ * who has a seat is 22, on a full desk too. Replies: 21, 22, 24.
+ * A refusal leaves `desk` as it was. */
+uint8_t narephon_desk_open(uint8_t *desk, size_t desk_len, uint16_t member);
+
+/* Makes the seat of `member` free, all of its bytes 0. Replies: 21, 23.
+ * A refusal leaves `desk` as it was. */
+uint8_t narephon_desk_close(uint8_t *desk, size_t desk_len, uint16_t member);
+
+/* Does what narephon_next_frame does with the record of `member`, and changes
+ * nothing else of the desk. Replies: 21, 23.
+ * A refusal leaves `desk` as it was. */
+uint8_t narephon_desk_next_frame(uint8_t *desk, size_t desk_len, uint16_t member);
+
+/* Does what narephon_write_register does with the record of `member`, and changes
+ * nothing else of the desk. Replies: 21, 23, 9, 10.
+ * A refusal leaves `desk` as it was, a half-sent colour still held. */
+uint8_t narephon_desk_write_register(uint8_t *desk, size_t desk_len, uint16_t member,
+                                     uint8_t number, uint8_t value);
+
+/* Does what narephon_write_port does with the record of `member`, and changes
+ * nothing else of the desk. Replies: 21, 23, 9, 10.
+ * A refusal leaves `desk` as it was. */
+uint8_t narephon_desk_write_port(uint8_t *desk, size_t desk_len, uint16_t member,
+                                 uint16_t port, uint8_t value);
+
+/* Does what narephon_read_register does with the record of `member`. It changes
+ * nothing of the desk. Replies: 21, 23, 9.
+ * A refusal sets `*value` to 0. */
+uint8_t narephon_desk_read_register(const uint8_t *desk, size_t desk_len, uint16_t member,
+                                    uint8_t number, uint8_t *value);
+
+/* Does what narephon_read_port does with the record of `member`. It changes
+ * nothing of the desk. Replies: 21, 23, 9.
+ * A refusal sets `*value` to 0. */
+uint8_t narephon_desk_read_port(const uint8_t *desk, size_t desk_len, uint16_t member,
+                                uint16_t port, uint8_t *value);
+
+/* Does what narephon_draw does with the record of `member`. It changes nothing of
+ * the desk. Replies: 21, 23, 1, 2, 3, 6, 7, 5, 8.
+ * A refusal leaves `dots` as it was. */
+uint8_t narephon_desk_draw(const uint8_t *desk, size_t desk_len, uint16_t member,
+                           const uint8_t *ula, size_t ula_len,
+                           const uint8_t *tile, size_t tile_len,
+                           uint32_t line, uint16_t *dots, size_t dots_len);
 
 #ifdef __cplusplus
 }

@@ -1,8 +1,5 @@
-/* The header against the library: each call once, and a refusal of each. */
-#include "narephon.h"
-
-#include <stdio.h>
-#include <string.h>
+/* The header against the library: each call once, and a refusal of each; those on a desk are in test_desk.c. */
+#include "test.h"
 
 static uint8_t record[NAREPHON_RECORD], before[NAREPHON_RECORD], bank[NAREPHON_BANK];
 static uint8_t old[NAREPHON_OLD_RECORD], kept[NAREPHON_OLD_RECORD], moved[NAREPHON_RECORD];
@@ -10,14 +7,6 @@ static uint8_t file[NAREPHON_SCREEN], written[NAREPHON_SCREEN], screen[NAREPHON_
 static uint8_t picture[NAREPHON_PICTURE], map[NAREPHON_MAP], definitions[NAREPHON_DEFINITIONS];
 static uint16_t dots[NAREPHON_DOTS], layer2[NAREPHON_DOTS], sprites[NAREPHON_DOTS];
 static uint32_t colours, length, place;
-static int failures;
-
-static void same(const char *what, uint32_t got, uint32_t wanted) {
-    if (got != wanted) {
-        printf("%s: %u, not %u\n", what, (unsigned)got, (unsigned)wanted);
-        failures++;
-    }
-}
 
 /* The reply of a check or of a move, and the place that it told. */
 static void told(const char *what, uint8_t got, uint8_t reply, uint32_t where) {
@@ -440,6 +429,5 @@ int main(void) {
     pictures();
     screens();
     refused_screens();
-    printf("c: %d failures\n", failures);
-    return failures != 0;
+    return ended("c");
 }

@@ -22,7 +22,7 @@ _METADATA = """\
 Metadata-Version: 2.1
 Name: narephon
 Version: {version}
-Summary: ZX Spectrum Next lines, registers, records, screen files and tile packing, proved
+Summary: ZX Spectrum Next lines, registers, records, desks, screen files and tile packing, proved
 License: MIT
 Requires-Python: >=3.7
 Description-Content-Type: text/markdown

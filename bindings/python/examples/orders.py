@@ -19,7 +19,7 @@ from pathlib import Path
 from typing import Callable, List
 
 import narephon
-from narephon import _png
+from narephon import _calls, _png
 
 Lines = List[List[int]]
 
@@ -95,7 +95,7 @@ def picture() -> Lines:
 def main() -> None:
     file = Path(sys.argv[1] if len(sys.argv) > 1 else "orders.png")
     lines = picture()
-    file.write_bytes(_png.encoded(len(lines[0]), narephon._rows(lines)))
+    file.write_bytes(_png.encoded(len(lines[0]), _calls._rows(lines)))
     print(f"SLU LSU SUL above, LUS USL ULS below: {file}")
 
 

@@ -1,4 +1,4 @@
-"""Narephon from Python: lines, registers, records, screen files and tile packing of ZX Spectrum Next screens.
+"""Narephon from Python: lines, registers, records, desks, screen files and tile packing of ZX Spectrum Next screens.
 
 A member's whole video state is a record of ``RECORD`` bytes that the caller keeps. Every function takes bytes
 (``bytes``, ``bytearray`` or ``memoryview``) and gives ``bytes`` back; what it is given it never changes. A line is taken
@@ -7,7 +7,11 @@ file itself, a ``memoryview``. A refused call raises ``Refused``, which holds th
 sentence; where several refusals hold, it is the first in the order that a function names. Bytes that are no record are
 refused by reply 16, 17 or 18, and ``check_record``, ``load_record`` and the two moves tell the place as well. An
 argument of another type raises ``TypeError``, and a number that the library's parameter cannot hold ``ValueError``,
-before the library is called. Nothing is kept between calls, so that calls may run side by side in threads.
+before the library is called. A function keeps nothing between calls, so that functions may run side by side in threads.
+
+A ``Desk`` keeps the states of up to ``SEATS`` members, by member number, in place of a record for each. Its methods have
+the names of the functions, take the member in place of the record, and change the desk itself, so that one desk is used
+by one thread at a time.
 
 Records are made in version 2. One of version 1, which versions before 0.3.0 made, is an old record of ``OLD_RECORD``
 bytes: it lacks registers $26 and $27, which scroll the ULA, and its $32 and $33 stand for them. A function that only
@@ -21,24 +25,26 @@ installed; else that of the checkout in which the package stands, as ``bindings/
 from __future__ import annotations
 
 import ctypes
-from typing import Any, Callable, NamedTuple, Sequence, Union
+from typing import Any, NamedTuple, Sequence
 
-from . import _library, _png
-from .replies import PLACED, Refused, Reply
+from ._calls import (
+    DOTS, BytesLike, _answered, _banks, _byte, _dots, _lent, _lent_line, _narephon, _preview, _within, screen_value,
+)
+from ._desk import DESK, SEATS, Desk
+from .replies import Refused, Reply
 
 __all__ = [
-    "BANK", "DEFINITIONS", "DOTS", "MAP", "OLD_RECORD", "PICTURE", "PRIORITY", "RECORD", "SCREEN", "TRANSPARENT",
-    "BytesLike", "Packing", "Refused", "Reply", "Screen", "check_record", "draw", "draw_layers", "fewest", "is_record",
-    "load_record", "move_back", "move_up", "next_frame", "pack", "preview_png", "read_port", "read_register",
-    "read_scr", "reset", "screen_value", "write_port", "write_register", "write_scr",
+    "BANK", "DEFINITIONS", "DESK", "DOTS", "MAP", "OLD_RECORD", "PICTURE", "PRIORITY", "RECORD", "SCREEN", "SEATS",
+    "TRANSPARENT", "BytesLike", "Desk", "Packing", "Refused", "Reply", "Screen", "check_record", "draw", "draw_layers",
+    "fewest", "is_record", "load_record", "move_back", "move_up", "next_frame", "pack", "preview_png", "read_port",
+    "read_register", "read_scr", "reset", "screen_value", "write_port", "write_register", "write_scr",
 ]
 
-__version__ = "0.5.0"
+__version__ = "0.6.0"
 
 RECORD = 2152
 OLD_RECORD = 2150
 BANK = 16384
-DOTS = 640
 PICTURE = 40960
 MAP = 2560
 DEFINITIONS = 8192
@@ -47,13 +53,6 @@ SCREEN = 12353
 # Numbers of a lent line besides the colours: a transparent dot, and what is added to the colour of a priority dot.
 TRANSPARENT = 512
 PRIORITY = 1024
-
-_LINES = 256
-_COLOURS = 512
-
-BytesLike = Union[bytes, bytearray, memoryview]
-
-_narephon = _library.load()
 
 
 class Packing(NamedTuple):
@@ -72,26 +71,6 @@ class Screen(NamedTuple):
     colours: memoryview
 
 
-def _lent(name: str, data: BytesLike) -> tuple[ctypes.Array[ctypes.c_uint8], int]:
-    """A copy of the argument's bytes that a call may be lent, and their number; never a null pointer."""
-    if not isinstance(data, (bytes, bytearray, memoryview)):
-        raise TypeError(f"{name} must be bytes, a bytearray or a memoryview, not {type(data).__name__}")
-    copy = bytes(data)
-    return (ctypes.c_uint8 * max(len(copy), 1)).from_buffer_copy(copy or b"\0"), len(copy)
-
-
-def _lent_line(name: str, dots: Sequence[int]) -> tuple[ctypes.Array[ctypes.c_uint16], int]:
-    """A copy of the argument's numbers that a call may be lent, and how many they are; never a null pointer."""
-    try:
-        copy = list(dots)
-    except TypeError:
-        raise TypeError(f"{name} must be a sequence of numbers, not {type(dots).__name__}") from None
-    # a name for each of 640 numbers takes longer than the line: they are named only where one is wrong
-    if not all(isinstance(dot, int) and 0 <= dot < 1 << 16 for dot in copy):
-        _within(16, **{f"{name}[{place}]": dot for place, dot in enumerate(copy)})
-    return (ctypes.c_uint16 * max(len(copy), 1))(*copy), len(copy)
-
-
 def _viewed(file: BytesLike) -> memoryview:
     """The bytes of an argument themselves, not a copy. A view of other items is one of its bytes."""
     view = memoryview(file)
@@ -104,23 +83,6 @@ def _viewable(file: BytesLike) -> None:
     with memoryview(file) as view:
         if not view.c_contiguous and (view.format, view.ndim) != ("B", 1):
             raise TypeError("file must be bytes, or larger items with none left out")
-
-
-def _within(bits: int, **numbers: int) -> None:
-    """Raises ``ValueError`` for a number that the library's parameter cannot hold, which ctypes would cut."""
-    for name, number in numbers.items():
-        if not isinstance(number, int):
-            raise TypeError(f"{name} must be an int, not {type(number).__name__}")
-        if not 0 <= number < 1 << bits:
-            raise ValueError(f"{name} is {number}, which {bits} unsigned bits cannot hold")
-
-
-def _answered(reply: int, place: ctypes.c_uint32 | None = None) -> None:
-    """Raises ``Refused`` for every reply but 0, with the place where the reply tells one: the call sets 0 also where
-    nothing is told."""
-    if reply:
-        refused = Reply(reply)
-        raise Refused(refused, place.value if place is not None and refused in PLACED else None)
 
 
 def reset() -> bytes:
@@ -224,9 +186,7 @@ def read_register(record: BytesLike, number: int) -> int:
     Raises ``Refused`` with reply 16, 17, 18 or 9.
     """
     _within(8, number=number)
-    value = ctypes.c_uint8()
-    _answered(_narephon.narephon_read_register(*_lent("record", record), number, ctypes.byref(value)))
-    return value.value
+    return _byte(_narephon.narephon_read_register, *_lent("record", record), number)
 
 
 def read_port(record: BytesLike, port: int) -> int:
@@ -235,21 +195,12 @@ def read_port(record: BytesLike, port: int) -> int:
     Raises ``Refused`` with reply 16, 17, 18 or 9.
     """
     _within(16, port=port)
-    value = ctypes.c_uint8()
-    _answered(_narephon.narephon_read_port(*_lent("record", record), port, ctypes.byref(value)))
-    return value.value
+    return _byte(_narephon.narephon_read_port, *_lent("record", record), port)
 
 
 def _screen(record: BytesLike, ula: BytesLike, tile: BytesLike) -> tuple[Any, ...]:
     """What every line of a screen is drawn from, lent."""
-    return (*_lent("record", record), *_lent("ula", ula), *_lent("tile", tile))
-
-
-def _dots(call: Callable[..., int], lent: tuple[Any, ...], line: int) -> list[int]:
-    """A line that the call draws from what it is lent, or ``Refused``."""
-    dots = (ctypes.c_uint16 * DOTS)()
-    _answered(call(*lent, line, dots, DOTS))
-    return dots[:]
+    return (*_lent("record", record), *_banks(ula, tile))
 
 
 def draw(record: BytesLike, ula: BytesLike, tile: BytesLike, line: int) -> list[int]:
@@ -280,29 +231,13 @@ def draw_layers(record: BytesLike, ula: BytesLike, tile: BytesLike, layer2: Sequ
     return _dots(_narephon.narephon_draw_layers, lent, line)
 
 
-def screen_value(colour: int) -> int:
-    """A nine-bit colour as red × 65,536 + green × 256 + blue. Raises ``Refused`` with reply 10 above 511."""
-    _within(32, colour=colour)
-    value = ctypes.c_uint32()
-    _answered(_narephon.narephon_screen_value(colour, ctypes.byref(value)))
-    return value.value
-
-
-def _rows(lines: Sequence[Sequence[int]]) -> list[bytes]:
-    """Lines of dots as rows of a picture, in the colours' screen values."""
-    pixels = [screen_value(colour).to_bytes(3, "big") for colour in range(_COLOURS)]
-    return [b"".join([pixels[dot] for dot in dots]) for dots in lines]
-
-
 def preview_png(record: BytesLike, ula: BytesLike, tile: BytesLike) -> bytes:
     """A member's whole screen as a PNG file, 640 × 512: each of the 256 lines twice, in the colours' screen values.
 
     ``ula`` and ``tile`` are the two banks of ``BANK`` bytes, which may be the same. Raises ``Refused`` as ``draw``
     does, with reply 2, 16, 17, 18, 6, 7, 5 or 8, before anything is made; record and banks stay as they were.
     """
-    screen = _screen(record, ula, tile)
-    rows = _rows([_dots(_narephon.narephon_draw, screen, line) for line in range(_LINES)])
-    return _png.encoded(DOTS, [row for row in rows for _ in range(2)])
+    return _preview(_narephon.narephon_draw, _screen(record, ula, tile))
 
 
 def read_scr(record: BytesLike, bank: BytesLike, file: BytesLike) -> Screen:

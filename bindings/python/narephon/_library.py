@@ -9,6 +9,7 @@ from typing import NamedTuple
 
 _NAME = "libnarephon.so"
 _BYTES = (ctypes.POINTER(ctypes.c_uint8), ctypes.c_size_t)
+_SEAT = (*_BYTES, ctypes.c_uint16)  # a desk, and the member whose seat it is about
 _NUMBERS = (ctypes.POINTER(ctypes.c_uint16), ctypes.c_size_t)
 _BYTE = ctypes.POINTER(ctypes.c_uint8)
 _WORD = ctypes.POINTER(ctypes.c_uint32)
@@ -29,6 +30,15 @@ _SIGNATURES = {
     "narephon_screen_value": [ctypes.c_uint32, _WORD],
     "narephon_pack": [*_BYTES, ctypes.c_uint32, ctypes.c_uint32, *_BYTES, *_BYTES, _WORD],
     "narephon_fewest": [*_BYTES, _WORD],
+    "narephon_desk_start": [*_BYTES],
+    "narephon_desk_open": [*_SEAT],
+    "narephon_desk_close": [*_SEAT],
+    "narephon_desk_next_frame": [*_SEAT],
+    "narephon_desk_write_register": [*_SEAT, ctypes.c_uint8, ctypes.c_uint8],
+    "narephon_desk_write_port": [*_SEAT, ctypes.c_uint16, ctypes.c_uint8],
+    "narephon_desk_read_register": [*_SEAT, ctypes.c_uint8, _BYTE],
+    "narephon_desk_read_port": [*_SEAT, ctypes.c_uint16, _BYTE],
+    "narephon_desk_draw": [*_SEAT, *_BYTES, *_BYTES, ctypes.c_uint32, *_NUMBERS],
 }
 
 

@@ -41,6 +41,10 @@ class Reply(IntEnum):
     BAD_FIELD = 18, "a field of the record is out of its bounds"
     NO_ORDER = 19, "$15 bits 4-2 are 110 or 111, which is no order of the layers"
     BAD_DOT = 20, "a number of the Layer 2 line or of the sprite line is not allowed"
+    BAD_DESK = 21, "the desk has the wrong length, a seat that is not of its form, or a number seated twice"
+    ALREADY_OPEN = 22, "the member already has a seat"
+    NOT_OPEN = 23, "the member has no seat"
+    DESK_FULL = 24, "all sixteen seats are held"
 
     @classmethod
     def _missing_(cls, value: object) -> Reply | None:

@@ -90,6 +90,8 @@ class Examples(InFolder):
         self.assertEqual((self.folder / "preview.png").read_bytes(), narephon.preview_png(*sample()))
         moved = (self.folder / "record").read_bytes()
         self.assertEqual((len(sample()[0]), moved), (2150, written(narephon.move_up(sample()[0]), (0x26, 8))))
+        desk = narephon.Desk((self.folder / "desk").read_bytes())
+        self.assertEqual([desk.read_register(member, 0x40) for member in (7, 8)], [0, 1])
         # Port byte $26: the ink is 4, bright green, and paper and border are 3, bright magenta.
         shown = {pixel for row in self.picture("screen.png") for pixel in row}
         self.assertEqual(shown, {0x00FF00, 0xFF00FF})

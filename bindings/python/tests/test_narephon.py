@@ -185,15 +185,16 @@ class Header(Case):
     def test_the_lengths_and_the_numbers_of_dots(self) -> None:
         stated = re.findall(r"^#define NAREPHON_((?!VERSION)\w+) (\d+)$", self.header, re.MULTILINE)
         self.assertEqual([name for name, _ in stated], ["RECORD", "OLD_RECORD", "BANK", "DOTS", "PICTURE", "MAP",
-                                                       "DEFINITIONS", "SCREEN", "TRANSPARENT", "PRIORITY"])
+                                                       "DEFINITIONS", "SCREEN", "DESK", "SEATS", "TRANSPARENT", "PRIORITY"])
         for name, number in stated:
             self.assertEqual(getattr(narephon, name), int(number), name)
 
     def test_the_calls(self) -> None:
-        stated = re.findall(r"^uint8_t (narephon_\w+)\(", self.header, re.MULTILINE)
-        self.assertEqual(sorted(stated), sorted(narephon._library._SIGNATURES))
-        for name in stated:
-            self.assertTrue(getattr(narephon, name[len("narephon_"):]).__doc__, name)
+        stated = re.findall(r"^uint8_t narephon_(desk_|)(\w+)\(", self.header, re.MULTILINE)
+        names = [f"narephon_{desk}{call}" for desk, call in stated]
+        self.assertEqual(sorted(names), sorted(narephon._library._SIGNATURES))
+        for desk, call in stated:
+            self.assertTrue(getattr(narephon.Desk if desk else narephon, call).__doc__, call)
 
 
 if __name__ == "__main__":

@@ -1,6 +1,7 @@
 //! Each exported call beside the model: its reply, its answer, and every lent buffer afterwards. The safe wrapper is
 //! held to the same.
 
+use crate::compared::{changing, drawing, number, reading, Checked};
 use crate::lent::{same, same_items, Lent, Part};
 use crate::seen::{Call, Seen};
 use crate::states::record_of;
@@ -13,22 +14,12 @@ use model::{LentLines, State, DOTS, SCREEN_LENGTH};
 use narephon::{raw, Refusal};
 use std::fmt::Debug;
 
-/// What came of a comparison: a reply that both gave, or what differs.
-pub type Checked = Result<u8, String>;
-
 /// A reply, and the place in the record that it tells, 0 where it tells none.
 pub type Told = (u8, usize);
 
 /// Bytes to lend.
 pub fn lend(record: &[u8]) -> Lent<u8> {
     Lent::new(record, 0x5A)
-}
-
-fn number<T>(answer: &Result<T, narephon::Reply>) -> u8 {
-    match answer {
-        Ok(_) => DONE,
-        Err(reply) => reply.number(),
-    }
 }
 
 /// Does the wrapper give the reply, and the place just where one is told?
@@ -44,27 +35,23 @@ fn same_refusal<T>(what: &str, answer: &Result<T, Refusal>, wanted: Told) -> Res
 
 /// A call that changes a record, of version 2 only. The record lent is the state, so afterwards it is the record of the
 /// model's state.
-fn changing(
+fn changing_record(
     call: Call,
     record: &mut Lent<u8>,
     seen: &mut Seen,
     modelled: impl Fn(&State) -> (u8, State),
     lent: impl Fn(*mut u8, usize) -> u8,
-    wrapped: impl Fn(&mut [u8]) -> Result<(), narephon::Reply>,
+    wrapped: impl Fn(&mut Vec<u8>) -> Result<(), narephon::Reply>,
 ) -> Checked {
     let before = record.items().to_vec();
-    let mut copy = before.clone();
-    let (reply, wanted) = match model::read_new(&before) {
+    let modelled = |record: &[u8]| match model::read_new(record) {
         (DONE, _, state) => {
             let (reply, after) = modelled(&state);
             (reply, record_of(&after))
         }
-        (reply, ..) => (reply, before.clone()),
+        (reply, ..) => (reply, record.to_vec()),
     };
-    same("reply", lent(record.pointer(), record.count()), reply)?;
-    record.check("record", &wanted)?;
-    same("wrapper's reply", number(&wrapped(&mut copy)), reply)?;
-    same_items("wrapper's record", &copy, &wanted)?;
+    let reply = changing(record, modelled, lent, wrapped)?;
     seen.lent(call, &before, reply);
     Ok(reply)
 }
@@ -72,20 +59,19 @@ fn changing(
 pub fn next_frame(record: &mut Lent<u8>, seen: &mut Seen) -> Checked {
     // SAFETY: here and below, each pointer and length are those of one live buffer.
     let lent = |record, length| unsafe { raw::narephon_next_frame(record, length) };
-    let wrapped = narephon::next_frame;
-    let checked = changing(
+    let checked = changing_record(
         Call::NextFrame,
         record,
         seen,
         model::next_frame,
         lent,
-        wrapped,
+        |record| narephon::next_frame(record),
     );
     checked.map_err(|what| format!("next_frame: {what}"))
 }
 
 pub fn write_register(record: &mut Lent<u8>, number: u8, value: u8, seen: &mut Seen) -> Checked {
-    let checked = changing(
+    let checked = changing_record(
         Call::WriteRegister,
         record,
         seen,
@@ -97,7 +83,7 @@ pub fn write_register(record: &mut Lent<u8>, number: u8, value: u8, seen: &mut S
 }
 
 pub fn write_port(record: &mut Lent<u8>, port: u16, value: u8, seen: &mut Seen) -> Checked {
-    let checked = changing(
+    let checked = changing_record(
         Call::WritePort,
         record,
         seen,
@@ -109,7 +95,7 @@ pub fn write_port(record: &mut Lent<u8>, port: u16, value: u8, seen: &mut Seen) 
 }
 
 /// A call that reads a record, of either version, and leaves it.
-fn reading(
+fn reading_record(
     call: Call,
     record: &mut Lent<u8>,
     seen: &mut Seen,
@@ -117,26 +103,17 @@ fn reading(
     lent: impl Fn(*mut u8, usize, *mut u8) -> u8,
     wrapped: impl Fn(&[u8]) -> Result<u8, narephon::Reply>,
 ) -> Checked {
-    let before = record.items().to_vec();
-    let (reply, wanted) = match model::read_record(&before) {
+    let modelled = |record: &[u8]| match model::read_record(record) {
         (DONE, _, state) => modelled(&state),
         (reply, ..) => (reply, 0),
     };
-    // Another value than the one wanted, so that one left as it was is seen.
-    let mut value = !wanted;
-    let got = lent(record.pointer(), record.count(), &mut value);
-    same("reply", got, reply)?;
-    same("value", value, wanted)?;
-    record.check("record", &before)?;
-    let answer = wrapped(&before);
-    same("wrapper's reply", number(&answer), reply)?;
-    same("wrapper's value", answer.unwrap_or(0), wanted)?;
-    seen.lent(call, &before, reply);
+    let reply = reading(record, modelled, lent, wrapped)?;
+    seen.lent(call, record.items(), reply);
     Ok(reply)
 }
 
 pub fn read_register(record: &mut Lent<u8>, number: u8, seen: &mut Seen) -> Checked {
-    let checked = reading(
+    let checked = reading_record(
         Call::ReadRegister,
         record,
         seen,
@@ -150,7 +127,7 @@ pub fn read_register(record: &mut Lent<u8>, number: u8, seen: &mut Seen) -> Chec
 }
 
 pub fn read_port(record: &mut Lent<u8>, port: u16, seen: &mut Seen) -> Checked {
-    let checked = reading(
+    let checked = reading_record(
         Call::ReadPort,
         record,
         seen,
@@ -322,41 +299,17 @@ impl<T: Copy + PartialEq + Debug> Pair<T> {
         (&self.lent[0].1, &self.lent[last].1)
     }
 
-    fn lent(&mut self) -> [Part<T>; 2] {
+    pub(crate) fn lent(&mut self) -> [Part<T>; 2] {
         let last = self.lent.len() - 1;
         [0, last].map(|place| self.lent[place].0.part())
     }
 
-    fn check(&self, what: &str) -> Result<(), String> {
+    pub(crate) fn check(&self, what: &str) -> Result<(), String> {
         for (buffer, items) in &self.lent {
             buffer.check(what, items)?;
         }
         Ok(())
     }
-}
-
-/// A drawing into a line of `length` dots, which only reads its record; the reply and the model's state.
-fn drawing(
-    record: &mut Lent<u8>,
-    length: usize,
-    modelled: impl Fn(&[u8], &mut [u16]) -> (u8, State),
-    lent: impl Fn(Part<u8>, Part<u16>) -> u8,
-    wrapped: impl Fn(&[u8], &mut [u16]) -> Result<(), narephon::Reply>,
-) -> Result<(u8, State), String> {
-    let before = record.items().to_vec();
-    // No colour, so that a dot left out is seen.
-    let blank = vec![0xAAAA; length];
-    let mut wanted = blank.clone();
-    let (reply, state) = modelled(&before, &mut wanted);
-    let mut dots = Lent::new(&blank, 0x5A5A);
-    same("reply", lent(record.part(), dots.part()), reply)?;
-    dots.check("dots", &wanted)?;
-    record.check("record", &before)?;
-    let mut copy = blank;
-    let answer = wrapped(&before, &mut copy);
-    same("wrapper's reply", number(&answer), reply)?;
-    same_items("wrapper's dots", &copy, &wanted)?;
-    Ok((reply, state))
 }
 
 /// The reply and dots of the model, and its state. 16, 17 and 18 stand in the place of 4, after 1, 2 and 3: the reset

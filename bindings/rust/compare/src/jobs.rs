@@ -5,6 +5,7 @@ use crate::calls::{
     read_register, read_scr, reset, screen_value, write_port, write_register, write_scr, Banks,
     Packing,
 };
+use crate::desk_jobs;
 use crate::fault_jobs;
 use crate::layer_jobs;
 use crate::layers::layers;
@@ -16,8 +17,8 @@ use crate::screen_jobs;
 use crate::screens::any_file;
 use crate::seen::Seen;
 use crate::states::{
-    any_record_of, bank, damage, hold, lawful, lead, line, old_record_of, record_of, state_number,
-    value, ALL_FAULTS, INK_MASKS, PALETTES, SETTINGS,
+    any_record_of, bank, damage, hold, lawful, lead, line, old_record_of, port, record_of,
+    register, state_number, value, ALL_FAULTS, INK_MASKS, PALETTES, PORTS, SETTINGS,
 };
 use model::reply::DONE;
 use model::{State, BANK_LENGTH, DOTS, OLD_RECORD_LENGTH, RECORD_LENGTH, SCREEN_LENGTH};
@@ -32,7 +33,7 @@ pub struct Job {
 
 /// Every job. Rounds of neighbouring seeds take register numbers, port numbers, bytes, lengths and settings in turn, so
 /// the rounds of a job are multiples of those where each is to be met.
-pub const JOBS: [Job; 25] = [
+pub const JOBS: [Job; 28] = [
     Job {
         name: "packings",
         rounds: 12 * pictures::KINDS,
@@ -158,33 +159,22 @@ pub const JOBS: [Job; 25] = [
         rounds: 8_000,
         run: screen_jobs::refused,
     },
+    Job {
+        name: "desks",
+        rounds: 1_000,
+        run: desk_jobs::calls,
+    },
+    Job {
+        name: "damaged desks",
+        rounds: 20 * desk_jobs::DAMAGED_SEATS,
+        run: desk_jobs::damages,
+    },
+    Job {
+        name: "desks as on a record",
+        rounds: 1_000,
+        run: desk_jobs::as_on_a_record,
+    },
 ];
-
-const PORTS: [u16; 4] = [0x00FE, 0x00FF, 0xBF3B, 0xFF3B];
-
-/// A register number: mostly one that there is.
-fn register(random: &mut Random) -> u8 {
-    let known = [
-        0x08, 0x14, 0x15, 0x1A, 0x1B, 0x1C, 0x26, 0x27, 0x2F, 0x30, 0x31, 0x32, 0x33, 0x40, 0x41,
-        0x42, 0x43, 0x44, 0x4A, 0x4C, 0x68, 0x6B, 0x6C, 0x6E, 0x6F,
-    ];
-    match random.below(8) {
-        0 => random.byte(),
-        1 | 2 => random.pick(&[0x40, 0x41, 0x43, 0x44]),
-        _ => random.pick(&known),
-    }
-}
-
-/// A port number: mostly one that there is, or one byte of it wrong.
-fn port(random: &mut Random) -> u16 {
-    let known = random.pick(&PORTS);
-    match random.below(8) {
-        0 => random.number() as u16,
-        1 => known & 0xFF00 | u16::from(random.byte()),
-        2 => known & 0x00FF | u16::from(random.byte()) << 8,
-        _ => known,
-    }
-}
 
 /// Each value into one register, from a state with a held half and, 256 seeds on, from one without, or the other way
 /// about.

@@ -1,6 +1,9 @@
-//! How often each reply, each kind of call, each place that is told, each kind of line and each order of layers was reached.
+//! How often each reply, each kind of call, each place that is told, each kind of line, each order of layers and each case of a
+//! desk was reached.
 
 use crate::calls::Told;
+use crate::desks::Damage;
+use crate::seen_desks::{Desks, Met};
 use crate::seen_layers::{refused_for, Dots};
 use crate::states::{faults, INK_MASKS, PALETTES};
 use model::layers::Stack;
@@ -29,11 +32,20 @@ pub enum Call {
     ScreenValue,
     Pack,
     Fewest,
+    DeskStart,
+    DeskOpen,
+    DeskClose,
+    DeskNextFrame,
+    DeskWriteRegister,
+    DeskWritePort,
+    DeskReadRegister,
+    DeskReadPort,
+    DeskDraw,
 }
 
 /// The replies that each call can give. No call gives 4: an unlawful state can only come in a record, and such a record
-/// is 18.
-const POSSIBLE: [(Call, &[u8]); 16] = [
+/// is 18, on a desk 21.
+pub const POSSIBLE: [(Call, &[u8]); 25] = [
     (Call::Reset, &[0, 3]),
     (Call::CheckRecord, &[0, 16, 17, 18]),
     (Call::MoveUp, &[0, 3, 16, 17, 18]),
@@ -53,11 +65,20 @@ const POSSIBLE: [(Call, &[u8]); 16] = [
     (Call::ScreenValue, &[0, 10]),
     (Call::Pack, &[0, 3, 11, 12]),
     (Call::Fewest, &[0, 3, 11]),
+    (Call::DeskStart, &[0, 3]),
+    (Call::DeskOpen, &[0, 21, 22, 24]),
+    (Call::DeskClose, &[0, 21, 23]),
+    (Call::DeskNextFrame, &[0, 21, 23]),
+    (Call::DeskWriteRegister, &[0, 9, 10, 21, 23]),
+    (Call::DeskWritePort, &[0, 9, 10, 21, 23]),
+    (Call::DeskReadRegister, &[0, 9, 21, 23]),
+    (Call::DeskReadPort, &[0, 9, 21, 23]),
+    (Call::DeskDraw, &[0, 1, 2, 3, 5, 6, 7, 8, 21, 23]),
 ];
 
-/// The replies are 0 to 20, but for 13, which is retired.
+/// The replies are 0 to 24, but for 13, which is retired.
 fn replies() -> impl Iterator<Item = u8> {
-    (0..=20).filter(|&reply| reply != 13)
+    (0..=24).filter(|&reply| reply != 13)
 }
 
 /// The calls that tell a place, each with the length of a record whose fields it judges.
@@ -248,6 +269,7 @@ pub struct Seen {
     places: BTreeMap<(Call, usize, usize), u64>,
     /// The dots of layered lines.
     dots: Dots,
+    desks: Desks,
 }
 
 impl Seen {
@@ -375,6 +397,17 @@ impl Seen {
         }
     }
 
+    /// The reply of a call on a desk, and what it met there.
+    pub fn on_desk(&mut self, call: Call, met: Met, reply: u8) {
+        self.reply(call, reply);
+        self.desks.reply(call, met, reply);
+    }
+
+    /// A desk that every call refused by 21, for one thing in a seat.
+    pub fn damaged_desk(&mut self, damage: Damage, seat: usize) {
+        self.desks.damaged(damage, seat);
+    }
+
     pub fn add(&mut self, other: &Seen) {
         for (&key, count) in &other.replies {
             *self.replies.entry(key).or_default() += count;
@@ -392,13 +425,14 @@ impl Seen {
             *self.places.entry(key).or_default() += count;
         }
         self.dots.add(&other.dots);
+        self.desks.add(&other.desks);
     }
 
     fn calls_of(&self, kind: (Call, &'static str)) -> u64 {
         self.kinds.get(&kind).copied().unwrap_or(0)
     }
 
-    fn replies_of(&self, call: Call, reply: u8) -> u64 {
+    pub fn replies_of(&self, call: Call, reply: u8) -> u64 {
         self.replies.get(&(call, reply)).copied().unwrap_or(0)
     }
 
@@ -442,6 +476,7 @@ impl Seen {
         missing.extend(self.missing_places());
         missing.extend(self.missing_lines());
         missing.extend(self.dots.missing());
+        missing.extend(self.desks.missing());
         missing
     }
 
@@ -492,7 +527,7 @@ impl Seen {
             let lines = self.lines_under(mask);
             let _ = writeln!(text, "ULANext, mask {mask}: {lines} lines");
         }
-        text + &self.line_report() + &self.dots.report()
+        text + &self.line_report() + &self.dots.report() + &self.desks.report()
     }
 
     fn place_report(&self) -> String {
@@ -511,24 +546,24 @@ impl Seen {
     }
 
     fn reply_report(&self) -> String {
-        let mut text = String::from("calls by reply:\n              ");
+        let mut text = format!("calls by reply:\n{:<18}", "");
         for reply in replies() {
             let _ = write!(text, "{reply:>8}");
         }
         text.push('\n');
         for (call, _) in POSSIBLE {
-            let _ = write!(text, "{:<14}", format!("{call:?}"));
+            let _ = write!(text, "{:<18}", format!("{call:?}"));
             for reply in replies() {
                 let _ = write!(text, "{:>8}", self.replies_of(call, reply));
             }
             text.push('\n');
         }
-        text += "all           ";
+        let _ = write!(text, "{:<18}", "all");
         for reply in replies() {
             let all = POSSIBLE.map(|(call, _)| self.replies_of(call, reply));
             let _ = write!(text, "{:>8}", all.iter().sum::<u64>());
         }
-        text + "\nreply 4 never comes: a record of an unlawful state is 18\n"
+        text + "\nreply 4 never comes: a record of an unlawful state is 18, on a desk 21\n"
     }
 
     fn line_report(&self) -> String {

@@ -209,6 +209,33 @@ fn lead_tiles(random: &mut Random, state: &mut State, tiles: u64) {
     tile_x(state, offset);
 }
 
+/// The ports that there are.
+pub const PORTS: [u16; 4] = [0x00FE, 0x00FF, 0xBF3B, 0xFF3B];
+
+/// A register number: mostly one that there is.
+pub fn register(random: &mut Random) -> u8 {
+    let known = [
+        0x08, 0x14, 0x15, 0x1A, 0x1B, 0x1C, 0x26, 0x27, 0x2F, 0x30, 0x31, 0x32, 0x33, 0x40, 0x41,
+        0x42, 0x43, 0x44, 0x4A, 0x4C, 0x68, 0x6B, 0x6C, 0x6E, 0x6F,
+    ];
+    match random.below(8) {
+        0 => random.byte(),
+        1 | 2 => random.pick(&[0x40, 0x41, 0x43, 0x44]),
+        _ => random.pick(&known),
+    }
+}
+
+/// A port number: mostly one that there is, or one byte of it wrong.
+pub fn port(random: &mut Random) -> u16 {
+    let known = random.pick(&PORTS);
+    match random.below(8) {
+        0 => random.number() as u16,
+        1 => known & 0xFF00 | u16::from(random.byte()),
+        2 => known & 0x00FF | u16::from(random.byte()) << 8,
+        _ => known,
+    }
+}
+
 /// A value for a register or a port: any, small, a mask, or beside a bound.
 pub fn value(random: &mut Random) -> u8 {
     match random.below(4) {

@@ -51,13 +51,10 @@ impl Row {
         self.measured.median / self.other.median
     }
 
-    fn line(&self) -> String {
-        let target = match self.target {
-            Some(target) => format!("≤ {target:.2}"),
-            None => "–".to_string(),
-        };
+    /// Its figures, and what stands in the last cell.
+    fn line(&self, last: &str) -> String {
         format!(
-            "| {} | {:.2} | {:.2} | {:.2} | {:.2} | {:.2} | {:.2} | {} |",
+            "| {} | {:.2} | {:.2} | {:.2} | {:.2} | {:.2} | {:.2} | {last} |",
             self.what,
             self.measured.median,
             self.measured.least,
@@ -65,8 +62,19 @@ impl Row {
             self.other.least,
             self.ratio(),
             self.measured.least / self.other.least,
-            target
         )
+    }
+
+    fn aimed_at(&self) -> String {
+        match self.target {
+            Some(target) => format!("≤ {target:.2}"),
+            None => "–".to_string(),
+        }
+    }
+
+    /// What is measured takes so much more than the other, by the medians.
+    fn more(&self) -> String {
+        format!("{:.2}", self.measured.median - self.other.median)
     }
 
     fn missed(&self) -> bool {
@@ -74,16 +82,28 @@ impl Row {
     }
 }
 
-/// Prints the rows as a Markdown table, with the names of what is measured and of the other, and which of them miss their
-/// target by the median.
-pub fn print_table(title: &str, [measured, other]: [&str; 2], rows: &[Row]) {
+/// The head of a Markdown table, with the names of what is measured, of the other, and of the last column.
+fn print_head(title: &str, [measured, other]: [&str; 2], last: &str) {
     println!("\n### {title}\n");
     println!(
-        "| what | {measured} median µs | min µs | {other} median µs | min µs | ratio of medians | ratio of minima | target |"
+        "| what | {measured} median µs | min µs | {other} median µs | min µs | ratio of medians | ratio of minima | {last} |"
     );
     println!("|---|---:|---:|---:|---:|---:|---:|---:|");
+}
+
+/// Prints the rows with what each takes more than the other.
+pub fn print_costs(title: &str, names: [&str; 2], rows: &[Row]) {
+    print_head(title, names, "more, µs");
     for row in rows {
-        println!("{}", row.line());
+        println!("{}", row.line(&row.more()));
+    }
+}
+
+/// Prints the rows with their targets, and which of them miss theirs by the median.
+pub fn print_table(title: &str, names: [&str; 2], rows: &[Row]) {
+    print_head(title, names, "target");
+    for row in rows {
+        println!("{}", row.line(&row.aimed_at()));
     }
     let missed: Vec<&str> = rows
         .iter()

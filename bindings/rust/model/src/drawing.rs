@@ -32,7 +32,7 @@ fn refusal(line: u32, ula: &[u8], tile: &[u8], state: &State, out: &[u16]) -> Re
 }
 
 /// Rules 10.1 and 10.13: 1, 2, 3 in this order, 3 for each of the lines of dots.
-pub(crate) fn lengths_refusal(line: u32, ula: &[u8], tile: &[u8], dots: &[&[u16]]) -> Reply {
+pub fn lengths_refusal(line: u32, ula: &[u8], tile: &[u8], dots: &[&[u16]]) -> Reply {
     if line > 255 {
         return LINE_ABOVE_255;
     }

@@ -1,18 +1,19 @@
 //! A plain model of a ZX Spectrum Next line drawer: register file, one line
-//! of 640 dots, stored record, screen files and tile packer.
+//! of 640 dots, stored record, desk, screen files and tile packer.
 //!
 //! It is written from document 01, the scope paper, alone (with the tilemap
 //! page where that paper leaves bits to it) and not from the Rattle code; screen
 //! files are from their request and the page on ULAplus, the second scroll and
 //! the second version of a record from theirs, what is wrong with a record from
-//! its own, and lent layers from theirs. The comments cite the rules by the
-//! numbers that docs/RULES.md gives them. A request that comes later extends the
-//! model from its paper alone, before the code is looked at.
+//! its own, and lent layers and the desk from theirs. The comments cite the rules
+//! by the numbers that docs/RULES.md gives them. A request that comes later extends
+//! the model from its paper alone, before the code is looked at.
 //!
 //! Every rule is worked out for one dot, one cell or one register at a time;
 //! nothing here is written for speed.
 
 pub mod colour;
+pub mod desk;
 pub mod drawing;
 mod fields;
 pub mod layers;

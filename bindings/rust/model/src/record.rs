@@ -125,6 +125,11 @@ pub fn read_new(bytes: &[u8]) -> (Reply, usize, State) {
     read_as(bytes, &[Version::Two])
 }
 
+/// Is it a record of version 2 of a lawful state?
+pub(crate) fn is_new(bytes: &[u8]) -> bool {
+    judged(bytes, &[Version::Two]).is_ok()
+}
+
 fn read_as(bytes: &[u8], taken: &[Version]) -> (Reply, usize, State) {
     match judged(bytes, taken) {
         Ok(version) => {

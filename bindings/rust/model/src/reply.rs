@@ -1,6 +1,6 @@
 //! The reply numbers of section 9: rule 9.N says when reply N comes.
 
-/// A reply is a plain number, 0 to 20 without 13, which is retired.
+/// A reply is a plain number, 0 to 24 without 13, which is retired.
 pub type Reply = u8;
 
 /// Rule 9.0: nothing is refused.
@@ -43,3 +43,11 @@ pub const BAD_FIELD: Reply = 18;
 pub const NO_ORDER: Reply = 19;
 /// Rule 9.20: a number that is no dot of a lent line.
 pub const BAD_DOT: Reply = 20;
+/// Rule 9.21: bytes that are no well-formed desk.
+pub const BAD_DESK: Reply = 21;
+/// Rule 9.22: a member who has a seat opens.
+pub const ALREADY_OPEN: Reply = 22;
+/// Rule 9.23: a member who has no seat does anything else.
+pub const NOT_OPEN: Reply = 23;
+/// Rule 9.24: no seat is free.
+pub const DESK_FULL: Reply = 24;

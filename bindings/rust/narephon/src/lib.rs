@@ -1,4 +1,4 @@
-//! Narephon from Rust: lines, registers, records, screen files and tile packing of ZX Spectrum Next screens.
+//! Narephon from Rust: lines, registers, records, desks, screen files and tile packing of ZX Spectrum Next screens.
 //!
 //! A member's whole video state is a record of [`RECORD`] bytes that the caller keeps and lends. Every call answers on
 //! every input: `Ok`, or the [`Reply`] that refuses it and leaves every lent buffer as it was. Where several refusals
@@ -13,6 +13,8 @@
 //! Bytes that are no record are refused by 16, 17 or 18, in this order. [`check_record`], the moves and [`load_record`] tell
 //! the place too, in a [`Refusal`].
 //!
+//! A [`Desk`] keeps the records of up to [`SEATS`] members in one buffer, and its calls find one by the member's number.
+//!
 //! ```
 //! let mut record = narephon::reset();
 //! narephon::write_port(&mut record, 0x00FE, 2)?;
@@ -26,11 +28,13 @@
 //! ```
 #![deny(missing_docs)]
 
+mod desk;
 // The numbers and buffers behind a refusal, which the wrappers do not show.
 #[doc(hidden)]
 pub mod raw;
 mod reply;
 
+pub use desk::Desk;
 use reply::{answered, judged};
 pub use reply::{Refusal, Reply};
 
@@ -53,6 +57,10 @@ pub const MAP: usize = 2560;
 pub const DEFINITIONS: usize = 8192;
 /// Bytes of the longest screen file, and of the buffer that one is written into.
 pub const SCREEN: usize = 12353;
+/// Bytes of a desk.
+pub const DESK: usize = 34480;
+/// Seats of a desk.
+pub const SEATS: usize = 16;
 
 /// The number of a transparent dot in a line lent to [`draw_layers`].
 pub const TRANSPARENT: u16 = 512;

@@ -91,4 +91,48 @@ extern "C" {
         count: *mut u32,
     ) -> u8;
     pub fn narephon_fewest(picture: *const u8, picture_len: usize, count: *mut u32) -> u8;
+    pub fn narephon_desk_start(desk: *mut u8, desk_len: usize) -> u8;
+    pub fn narephon_desk_open(desk: *mut u8, desk_len: usize, member: u16) -> u8;
+    pub fn narephon_desk_close(desk: *mut u8, desk_len: usize, member: u16) -> u8;
+    pub fn narephon_desk_next_frame(desk: *mut u8, desk_len: usize, member: u16) -> u8;
+    pub fn narephon_desk_write_register(
+        desk: *mut u8,
+        desk_len: usize,
+        member: u16,
+        number: u8,
+        value: u8,
+    ) -> u8;
+    pub fn narephon_desk_write_port(
+        desk: *mut u8,
+        desk_len: usize,
+        member: u16,
+        port: u16,
+        value: u8,
+    ) -> u8;
+    pub fn narephon_desk_read_register(
+        desk: *const u8,
+        desk_len: usize,
+        member: u16,
+        number: u8,
+        value: *mut u8,
+    ) -> u8;
+    pub fn narephon_desk_read_port(
+        desk: *const u8,
+        desk_len: usize,
+        member: u16,
+        port: u16,
+        value: *mut u8,
+    ) -> u8;
+    pub fn narephon_desk_draw(
+        desk: *const u8,
+        desk_len: usize,
+        member: u16,
+        ula: *const u8,
+        ula_len: usize,
+        tile: *const u8,
+        tile_len: usize,
+        line: u32,
+        dots: *mut u16,
+        dots_len: usize,
+    ) -> u8;
 }

@@ -15,7 +15,8 @@ pub enum Reply {
     BankLength,
     /// 3: another buffer has the wrong length.
     BufferLength,
-    /// 4: the state is not lawful. A record of such a state is [`Reply::BadField`], so no call here gives this.
+    /// 4: the state is not lawful. A record of such a state is [`Reply::BadField`], on a desk [`Reply::BadDesk`],
+    /// so no call here gives this.
     NotLawful,
     /// 5: the ULA is on, LoRes is off, and port $FF gives no mode.
     NoMode,
@@ -47,12 +48,20 @@ pub enum Reply {
     NoOrder,
     /// 20: a number of the Layer 2 line or of the sprite line is not allowed.
     BadDot,
+    /// 21: the desk has the wrong length, a seat that is not of its form, or a number seated twice.
+    BadDesk,
+    /// 22: the member already has a seat.
+    AlreadyOpen,
+    /// 23: the member has no seat.
+    NotOpen,
+    /// 24: all sixteen seats are held.
+    DeskFull,
     /// Any other number: the library is of another version than this wrapper.
     Unknown(u8),
 }
 
 /// The replies with a number of their own.
-const KNOWN: [Reply; 19] = [
+const KNOWN: [Reply; 23] = [
     Reply::NoLine,
     Reply::BankLength,
     Reply::BufferLength,
@@ -72,6 +81,10 @@ const KNOWN: [Reply; 19] = [
     Reply::BadField,
     Reply::NoOrder,
     Reply::BadDot,
+    Reply::BadDesk,
+    Reply::AlreadyOpen,
+    Reply::NotOpen,
+    Reply::DeskFull,
 ];
 
 impl Reply {
@@ -97,6 +110,10 @@ impl Reply {
             Reply::BadField => 18,
             Reply::NoOrder => 19,
             Reply::BadDot => 20,
+            Reply::BadDesk => 21,
+            Reply::AlreadyOpen => 22,
+            Reply::NotOpen => 23,
+            Reply::DeskFull => 24,
             Reply::Unknown(number) => number,
         }
     }
@@ -133,6 +150,12 @@ impl Reply {
             Reply::BadDot => {
                 "a number of the Layer 2 line or of the sprite line is not allowed"
             }
+            Reply::BadDesk => {
+                "the desk has the wrong length, a seat that is not of its form, or a number seated twice"
+            }
+            Reply::AlreadyOpen => "the member already has a seat",
+            Reply::NotOpen => "the member has no seat",
+            Reply::DeskFull => "all sixteen seats are held",
             Reply::Unknown(_) => {
                 "a reply that this wrapper does not know: the library is of another version"
             }
@@ -222,7 +245,7 @@ mod tests {
         for number in 1..=255 {
             let reply = answered(number, 5).expect_err("a refusal");
             assert_eq!(reply.number(), number);
-            let known = number <= 20 && number != 13;
+            let known = number <= 24 && number != 13;
             assert_eq!(reply != Reply::Unknown(number), known);
         }
     }

@@ -1,11 +1,13 @@
 //! Narephon measured against plain Rust written for speed, as Markdown tables.
 
+use compare::desks::record_bytes;
 use compare::layers::{layer2, sprites};
 use compare::pictures;
 use compare::random::Random;
 use compare::states::record_of;
-use compare::timing::{interleaved, print_table, Row};
+use compare::timing::{interleaved, print_costs, print_table, Figures, Row};
 use model::{LentLines, State};
+use narephon::Desk;
 use std::hint::black_box;
 
 const LINES: u32 = 256;
@@ -19,11 +21,13 @@ Both sides are built for release and given the same inputs. Their runs are inter
 ratios are Narephon to fast. Buffers are reused from run to run and not cleared. Banks are noise, offsets are not 0,
 nothing is clipped. Narephon's calls are given a record each time. Lent layers are Narephon beside Narephon: a line drawn
 with them to the same line drawn without. They are noise, other in each line: a third of Layer 2 is transparent, a third
-colours, a third colours with priority; half of the sprites is transparent, half colours.";
+colours, a third colours with priority; half of the sprites is transparent, half colours. Desks are Narephon beside
+Narephon too: a call by the member in the last held seat to the same call on a record.";
 
 /// What the tables measure.
 const BESIDE_FAST: [&str; 2] = ["Narephon", "fast"];
 const BESIDE_PLAIN: [&str; 2] = ["draw_layers", "draw"];
+const BESIDE_RECORD: [&str; 2] = ["desk", "record"];
 
 fn main() {
     let mut random = Random::new(1);
@@ -32,6 +36,7 @@ fn main() {
     // Noise of its own, so that what the other tables are given stays.
     layers(&mut Random::new(2));
     records(&mut random);
+    desks(&mut Random::new(3));
     packings(&mut random);
 }
 
@@ -339,6 +344,108 @@ fn bad_colour_row(random: &mut Random) -> Row {
         measured: times[0],
         other: times[1],
         target: None,
+    }
+}
+
+/// The calls on a desk with few seats held and with all, beside those on a record.
+fn desks(random: &mut Random) {
+    let bank = random.bytes(narephon::BANK);
+    let mut rows = Vec::new();
+    for held in [1, 8, 16] {
+        let mut sides = Sides::new(random, held);
+        rows.extend(sides.writes());
+        rows.extend(sides.reads(&bank));
+    }
+    print_costs(
+        "A call on a desk beside the same call on a record",
+        BESIDE_RECORD,
+        &rows,
+    );
+}
+
+/// A desk of members with states of their own, numbered from 1, and the record of the last.
+struct Sides {
+    desk: Desk,
+    record: Vec<u8>,
+    member: u16,
+}
+
+impl Sides {
+    fn new(random: &mut Random, held: u16) -> Sides {
+        let mut desk = Desk::new();
+        for member in 1..=held {
+            assert_eq!(desk.open(member), Ok(()));
+        }
+        let (mut bytes, mut record) = (desk.into_bytes(), Vec::new());
+        for seat in 0..usize::from(held) {
+            record = record_of(&base(random));
+            bytes[record_bytes(seat)].copy_from_slice(&record);
+        }
+        Sides {
+            desk: Desk::from_bytes(bytes),
+            record,
+            member: held,
+        }
+    }
+
+    fn row(&self, what: &str, times: &[Figures]) -> Row {
+        Row {
+            what: format!("{what}, seats held: {}", self.member),
+            measured: times[0],
+            other: times[1],
+            target: None,
+        }
+    }
+
+    /// Both sides go through the same values, and end with the same record.
+    fn writes(&mut self) -> [Row; 2] {
+        let (member, desk, record) = (self.member, &mut self.desk, &mut self.record);
+        let (mut value, mut other) = (0u8, 0u8);
+        let mut on_desk = || {
+            value = value.wrapping_add(1);
+            assert_eq!(desk.write_register(member, 0x41, value), Ok(()));
+        };
+        let mut on_record = || {
+            other = other.wrapping_add(1);
+            assert_eq!(narephon::write_register(record, 0x41, other), Ok(()));
+        };
+        let written = interleaved(150, 500, &mut [&mut on_desk, &mut on_record]);
+        let mut on_desk = || assert_eq!(desk.next_frame(member), Ok(()));
+        let mut on_record = || assert_eq!(narephon::next_frame(record), Ok(()));
+        let moved = interleaved(150, 500, &mut [&mut on_desk, &mut on_record]);
+        let seat = usize::from(member) - 1;
+        assert!(self.desk.as_bytes()[record_bytes(seat)] == self.record);
+        [
+            self.row("write of $41", &written),
+            self.row("next frame", &moved),
+        ]
+    }
+
+    /// A read, and a line in mode 0, another each time.
+    fn reads(&self, bank: &[u8]) -> [Row; 2] {
+        let (member, desk, record) = (self.member, &self.desk, &self.record[..]);
+        let wanted = narephon::read_register(record, 0x41);
+        let mut on_desk = || assert_eq!(black_box(desk).read_register(member, 0x41), wanted);
+        let mut on_record = || assert_eq!(narephon::read_register(black_box(record), 0x41), wanted);
+        let read = interleaved(150, 500, &mut [&mut on_desk, &mut on_record]);
+        let mut lines = [[0; narephon::DOTS]; 2];
+        let [dots, other_dots] = &mut lines;
+        let (mut line, mut other_line) = (0, 0);
+        let mut on_desk = || {
+            line = (line + 1) % LINES;
+            assert_eq!(desk.draw(member, bank, bank, line, dots), Ok(()));
+        };
+        let mut on_record = || {
+            other_line = (other_line + 1) % LINES;
+            let drawn = narephon::draw(record, bank, bank, other_line, other_dots);
+            assert_eq!(drawn, Ok(()));
+        };
+        let drawn = interleaved(150, LINES, &mut [&mut on_desk, &mut on_record]);
+        assert!(lines[0] == lines[1], "a line on a desk differs");
+        [
+            self.row("read of $41", &read),
+            self.row("a line in mode 0", &drawn),
+        ]
     }
 }
 
