@@ -2,7 +2,7 @@
 -- put back, changes nothing.
 use Prim.Native.Nat.{ℕ, _+_, _*_, _≤_, _<_}
 use mathlib.Core.Path.{_≡_, refl, sym, ap, _∙_}
-use mathlib.Core.Bool.{Bool, true, false, cond}
+use mathlib.Core.Bool.{Bool, true, false}
 use mathlib.Core.List.{List}
 use native.Mathlib.Omega.{arith}
 use lib.ListN.{drop}
@@ -27,22 +27,15 @@ pub exit-bad : (d : List ℕ) (m : ℕ) (c : Call) → wellFormed d ≡ false �
 unfolding deskCall
 exit-bad d m c w = if-false (wellFormed d) (settledBy d m (ownCall (hasRoom d) (ownOf d m) c)) (refusedBy BadDesk d c) w
 
-module _ (d : List ℕ) (w : wellFormed d ≡ true) (m : ℕ) where
-  pub on-own : (c : Call) → deskCall d m c ≡ settledBy d m (ownCall (hasRoom d) (ownOf d m) c)
-  unfolding deskCall
-  on-own c = if-true (wellFormed d) (settledBy d m (ownCall (hasRoom d) (ownOf d m) c)) (refusedBy BadDesk d c) w
-
-  -- ---- a member without a seat
-
+-- what a number has, and the desk with it put back, by its place
+module _ (d : List ℕ) (m : ℕ) where
   module _ (n : seats ≤ placeOf d m) where
     unseated : isSeated d m ≡ false
     unseated = le-ltb (placeOf d m) seats n
 
-    pub away-call : (c : Call) → deskCall d m c ≡ settledBy d m (awayCall (hasRoom d) c)
+    pub own-away : ownOf d m ≡ away
     unfolding ownOf
-    away-call c =
-        on-own c
-        ∙ ap (λ (o : Own). settledBy d m (ownCall (hasRoom d) o c)) (if-false (isSeated d m) (here (drop 3 (seatAt d (placeOf d m)))) away unseated)
+    own-away = if-false (isSeated d m) (here (drop 3 (seatAt d (placeOf d m)))) away unseated
 
     pub settled-away : settled d m away ≡ d
     unfolding settled
@@ -53,24 +46,14 @@ module _ (d : List ℕ) (w : wellFormed d ≡ true) (m : ℕ) where
     settled-new b =
         if-false (isSeated d m) (placed d (placeOf d m * seatLength + 3) b) (placed d (freeOf d * seatLength) (seatOf m b)) unseated
 
-    exit-unseated : (c : Call) → isOpening c ≡ false → deskCall d m c ≡ refusedBy NotOpen d c
-    exit-unseated c o =
-        away-call c
-        ∙ ap (settledBy d m) (if-false (isOpening c) (opened (hasRoom d)) (notOpen c) o)
-        ∙ ap (λ (e : List ℕ). refusedBy NotOpen e c) settled-away
-
-  -- ---- the member of seat i
-
   module _ (i : ℕ) (l : i < seats) (p : i ≡ placeOf d m) where
     has-seat : isSeated d m ≡ true
     has-seat = lt-ltb (placeOf d m) seats (omega arith)
 
-    pub seated-call : (c : Call) → deskCall d m c ≡ settledBy d m (seatedCall (drop 3 (seatAt d i)) c)
+    pub own-seat : ownOf d m ≡ here (drop 3 (seatAt d i))
     unfolding ownOf
-    seated-call c =
-        on-own c
-        ∙ ap (λ (o : Own). settledBy d m (ownCall (hasRoom d) o c))
-        (if-true (isSeated d m) (here (drop 3 (seatAt d (placeOf d m)))) away has-seat ∙ ap (λ (k : ℕ). here (drop 3 (seatAt d k))) (sym p))
+    own-seat =
+        if-true (isSeated d m) (here (drop 3 (seatAt d (placeOf d m)))) away has-seat ∙ ap (λ (k : ℕ). here (drop 3 (seatAt d k))) (sym p)
 
     pub settled-here : (b : List ℕ) → settled d m (here b) ≡ placed d (i * seatLength + 3) b
     unfolding settled
@@ -78,23 +61,46 @@ module _ (d : List ℕ) (w : wellFormed d ≡ true) (m : ℕ) where
         if-true (isSeated d m) (placed d (placeOf d m * seatLength + 3) b) (placed d (freeOf d * seatLength) (seatOf m b)) has-seat
         ∙ ap (λ (k : ℕ). placed d (k * seatLength + 3) b) (sym p)
 
-    pub settled-same : settled d m (here (drop 3 (seatAt d i))) ≡ d
-    settled-same = settled-here (drop 3 (seatAt d i)) ∙ record-same d (formed-long d w) i l
-
     pub settled-gone : settled d m away ≡ placed d (i * seatLength) (zeros seatLength)
     unfolding settled
     settled-gone =
         if-true (isSeated d m) (placed d (placeOf d m * seatLength) (zeros seatLength)) d has-seat
         ∙ ap (λ (k : ℕ). placed d (k * seatLength) (zeros seatLength)) (sym p)
 
+module _ (d : List ℕ) (w : wellFormed d ≡ true) (m : ℕ) where
+  pub on-own : (c : Call) → deskCall d m c ≡ settledBy d m (ownCall (hasRoom d) (ownOf d m) c)
+  unfolding deskCall
+  on-own c = if-true (wellFormed d) (settledBy d m (ownCall (hasRoom d) (ownOf d m) c)) (refusedBy BadDesk d c) w
+
+  -- a call by what the member has
+  pub by-own : (c : Call) (o : Own) → ownOf d m ≡ o → deskCall d m c ≡ settledBy d m (ownCall (hasRoom d) o c)
+  by-own c o e = on-own c ∙ ap (λ (x : Own). settledBy d m (ownCall (hasRoom d) x c)) e
+
+  module _ (n : seats ≤ placeOf d m) where
+    pub away-call : (c : Call) → deskCall d m c ≡ settledBy d m (awayCall (hasRoom d) c)
+    away-call c = by-own c away (own-away d m n)
+
+    exit-unseated : (c : Call) → isOpening c ≡ false → deskCall d m c ≡ refusedBy NotOpen d c
+    exit-unseated c o =
+        away-call c
+        ∙ ap (settledBy d m) (if-false (isOpening c) (opened (hasRoom d)) (notOpen c) o)
+        ∙ ap (λ (e : List ℕ). refusedBy NotOpen e c) (settled-away d m n)
+
+  module _ (i : ℕ) (l : i < seats) (p : i ≡ placeOf d m) where
+    pub seated-call : (c : Call) → deskCall d m c ≡ settledBy d m (seatedCall (drop 3 (seatAt d i)) c)
+    seated-call c = by-own c (here (drop 3 (seatAt d i))) (own-seat d m i l p)
+
+    settled-same : settled d m (here (drop 3 (seatAt d i))) ≡ d
+    settled-same = settled-here d m i l p (drop 3 (seatAt d i)) ∙ record-same d (formed-long d w) i l
+
   -- what the member has, put back, changes nothing
   pub settled-own : settled d m (ownOf d m) ≡ d
-  unfolding ownOf
   settled-own = go (isSeated d m) refl
     where
-      go : (b : Bool) → isSeated d m ≡ b → settled d m (cond b (here (drop 3 (seatAt d (placeOf d m)))) away) ≡ d
-      go true e = settled-same (placeOf d m) (ltb-true (placeOf d m) seats e) refl
-      go false e = settled-away (ltb-false (placeOf d m) seats e)
+      go : (b : Bool) → isSeated d m ≡ b → settled d m (ownOf d m) ≡ d
+      go true e =
+          let l = ltb-true (placeOf d m) seats e in ap (settled d m) (own-seat d m (placeOf d m) l refl) ∙ settled-same (placeOf d m) l refl
+      go false e = let n = ltb-false (placeOf d m) seats e in ap (settled d m) (own-away d m n) ∙ settled-away d m n
 
 -- a call that finds no place
 pub refused-call : (d : List ℕ) (m : ℕ) (r : Reply) (c : Call) → isOpening c ≡ false → Unplaced d m r → deskCall d m c ≡ refusedBy r d c
@@ -110,5 +116,5 @@ refused-opening d m r (seated w l e) =
     ∙ ap (λ (x : Reply). refusedBy x d opening) e
 refused-opening d m r (full w n h e) =
     away-call d w m n opening ∙ ap (λ (b : Bool). settledBy d m (awayCall b opening)) h
-    ∙ ap (λ (x : List ℕ). refusedBy DeskFull x opening) (settled-away d w m n)
+    ∙ ap (λ (x : List ℕ). refusedBy DeskFull x opening) (settled-away d m n)
     ∙ ap (λ (x : Reply). refusedBy x d opening) e

@@ -7,6 +7,8 @@ use native.Mathlib.Omega.{arith}
 use lib.ListN.{length, take, drop}
 use borrow.Author.Tests.{lt-ltb}
 use Rattle.lists.specs.Placed.{placed}
+use Rattle.lists.specs.Tab.{tab}
+use Rattle.lists.proofs.Tab.{tab-zeros}
 use Rattle.lists.proofs.Cuts.{cut-length}
 use Rattle.lists.proofs.Placed.{placed-lent}
 use Rattle.reply.specs.declared.Reply.{Reply}
@@ -92,21 +94,21 @@ exit-opened d m i f ys g y =
       e .0,
       seat-back d w i (f .below) ys g ∙ ap (placed d (i * seatLength)) y
           ∙ ap (λ (k : ℕ). placed d (k * seatLength) (seatOf m (recordOf resetState))) (f .place)
-          ∙ sym (settled-new d w m (f .unseated) (recordOf resetState)) ∙ e .1,
+          ∙ sym (settled-new d m (f .unseated) (recordOf resetState)) ∙ e .1,
     )
 
 -- ---- the calls of a member with a seat
 
 module _ (d : List ℕ) (m i : ℕ) (s : SitsAt d m i) where
-  pub exit-closed : (ys : List ℕ) → length ys ≡ length (restOf d i (i * seatLength)) → ys ≡ zeros (length (restOf d i (i * seatLength)))
+  pub exit-closed : (ys : List ℕ) → length ys ≡ length (restOf d i (i * seatLength)) → ys ≡ tab (λ (k : ℕ). 0) (length (restOf d i (i * seatLength)))
       → Ends d m closing Done (restBack d i (i * seatLength) ys)
   exit-closed ys g y =
       let e = ends d m closing _ (seated-call d (s .formed) m i (s .below) (s .place) closing) in
       let n : length (restOf d i (i * seatLength)) ≡ seatLength =
       cut-length d (i * seatLength) (i * seatLength + seatLength - i * seatLength) (omega (arith, inside d (s .formed) i (s .below))) ∙ omega arith in (
         e .0,
-        seat-back d (s .formed) i (s .below) ys g ∙ ap (placed d (i * seatLength)) (y ∙ ap (λ (k : ℕ). zeros k) n)
-            ∙ sym (settled-gone d (s .formed) m i (s .below) (s .place)) ∙ e .1,
+        seat-back d (s .formed) i (s .below) ys g ∙ ap (placed d (i * seatLength)) (y ∙ tab-zeros (length (restOf d i (i * seatLength))) ∙ ap (λ (k : ℕ). zeros k) n)
+            ∙ sym (settled-gone d m i (s .below) (s .place)) ∙ e .1,
       )
 
   pub exit-changed : (c : Change) (r : Reply) (ys : List ℕ) → length ys ≡ length (restOf d i (i * seatLength + 3))
@@ -119,7 +121,7 @@ module _ (d : List ℕ) (m i : ℕ) (s : SitsAt d m i) where
         h .0 ∙ ap (λ (b : List ℕ). lentAnswer (changed c) b .reply) f ∙ e .0,
         record-back d (s .formed) i (s .below) ys g
             ∙ ap (placed d (i * seatLength + 3)) (h .1 ∙ ap (λ (b : List ℕ). lentAfter b (lentAnswer (changed c) b)) f)
-            ∙ sym (settled-here d (s .formed) m i (s .below) (s .place) _) ∙ e .1,
+            ∙ sym (settled-here d m i (s .below) (s .place) _) ∙ e .1,
       )
 
   -- a question to the record in the seat, and a line of it

@@ -6,8 +6,8 @@ use desk_places::Place;
 use desk_places::find;
 use desk_places::find_free;
 use desk_seats::SEAT;
-use desk_seats::make_zero;
 use desk_seats::take_seat;
+use lists::zero;
 use reply::Reply;
 
 // The first free seat for the member, with the reset state; or 21, 22 or 24, and the desk as it was.
@@ -36,7 +36,7 @@ pub fn close(desk: &mut [u8], member: u16) -> Reply
         Place::At(i) => {
             let at = i * SEAT;
             let end = at + SEAT;
-            make_zero(&mut desk[at..end]);
+            zero(&mut desk[at..end]);
             Reply::Done
         }
     }

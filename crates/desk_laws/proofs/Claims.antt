@@ -8,15 +8,14 @@ use native.Mathlib.Omega.{arith}
 use lib.ListN.{length, take, drop, length-replicate, replicate-append-replicate}
 use lib.Seq.{take-at, drop-at}
 use lib.Dec.{eqb, ltb}
+use borrow.Author.Tests.{le-ltb}
 use Rattle.lists.specs.Search.{some}
 use Rattle.lists.proofs.Counts.{count-some}
 use Rattle.lists.proofs.Bytes.{bytes-zeros}
 use Rattle.lists.proofs.Search.{not-both, some-at, some-of}
 use Rattle.lists.proofs.Cond.{if-true}
-use Rattle.reply.specs.declared.Reply.{Reply}
 use Rattle.reply.specs.declared.Reply.the-variants.{Done, BufferLength, AlreadyOpen, DeskFull}
-use Rattle.reply.specs.Reply.{replyNumber, isDone}
-use Rattle.reply.proofs.Done.{number-done, not-done, test-met}
+use Rattle.reply.proofs.Done.{is-refused, test-met}
 use Rattle.state.specs.declared.State.{State}
 use Rattle.state.specs.declared.Answer.{Answer}
 use Rattle.surface.specs.declared.lines.LineNumber.{LineNumber}
@@ -35,11 +34,11 @@ use Rattle.desk_seats.specs.Seats.{seats, seatLength, deskLength, zeros, seatAt
 use Rattle.desk_places.specs.Desks.{wellFormed, placeOf, isSeated, heldSeats, hasRoom, started}
 use Rattle.desk.specs.Own.{Call, opening, closing, changing, asking, drawing, Own, away, here, replied, isOpening, opened, notOpen, seatedCall, ownCall}
 use Rattle.desk.specs.Desk.{DeskResult, ownOf, settled, settledBy, deskCall}
-use Rattle.desk.proofs.Exits.{exit-bad, on-own, settled-own}
+use Rattle.desk.proofs.Exits.{exit-bad, on-own, by-own, settled-own}
 use Rattle.desk_laws.specs.Runs.{deskAfter, callsOf, withRoom, callsWithRoom, ownAnswers, ownAfter, NeverAsksRoom, CallTyped}
 use Rattle.desk_laws.specs.Claims.{IsDesk, HasState, StaysDesk, StartedEmpty, RefusedUntouched, LooksUntouched, OthersKept, SeatedHasState, BaseCalls, OwnAlone, OpeningAnswer, SameSeats, PlaceUntold, RunsAlone, Isolated, IsolatedSeated, OwnColours}
 use Rattle.desk_laws.proofs.Records.{OwnRecord, answer-is, reading-is, reply-is, dots-are, after-is}
-use Rattle.desk_laws.proofs.Formed.{GoodSeat, Formed, Where, at, nowhere, where-is, not-seated, own-nowhere, own-at, formed, is-desk}
+use Rattle.desk_laws.proofs.Formed.{GoodSeat, Formed, Where, at, nowhere, where-is, unplaced, own-nowhere, own-at, formed, is-desk}
 use Rattle.desk_laws.proofs.Settle.{sits-free, zeros-free, zeros-good}
 use Rattle.desk_laws.proofs.Step.{call-own, call-answer, call-settled, own-is-record}
 use Rattle.desk_laws.proofs.Runs.{formed-after, runs-alone, roomlessCalls, calls-roomless}
@@ -153,7 +152,7 @@ zero-formed = record {
 pub startedEmpty : StartedEmpty
 startedEmpty d m e =
     let s : started d ≡ zeros deskLength = if-true _ _ _ (test-met (eqb (length d) deskLength) Done BufferLength refl e .0) in
-    subst (λ (x : List ℕ). IsDesk x × (isSeated x m ≡ false)) (sym s) (is-desk (zeros deskLength) zero-formed, not-seated (zeros deskLength) m (zero-sits m))
+    subst (λ (x : List ℕ). IsDesk x × (isSeated x m ≡ false)) (sym s) (is-desk (zeros deskLength) zero-formed, le-ltb (placeOf (zeros deskLength) m) seats (unplaced (zeros deskLength) m (zero-sits m)))
 
 -- ---- what a call leaves as it was
 
@@ -170,10 +169,6 @@ untouched d m c h = go (wellFormed d) refl
         ∙ ap (settled d m) (h (hasRoom d) (ownOf d m) (ap (λ (a : DeskResult). a .outcome .reply) e))
         ∙ settled-own d w m
 
--- a reply that is not done
-unfinished : (r : Reply) → (r ≡ Done → ⊥) → isDone r ≡ false
-unfinished r n = not-done (replyNumber r) r refl (λ z. n (number-done r z))
-
 away-refused : (room : Bool) (c : Call) → (ownCall room away c .outcome .reply ≡ Done → ⊥) → ownCall room away c .own ≡ away
 away-refused room c = go (isOpening c) room
   where
@@ -187,7 +182,7 @@ own-refused : (room : Bool) (o : Own) (c : Call) → (ownCall room o c .outcome 
 own-refused room away c n = away-refused room c n
 own-refused room (here b) opening n = refl
 own-refused room (here b) closing n = absurd (n refl)
-own-refused room (here b) (changing c) n = ap here (sym (left b (lentAnswer (changed c) b) (unfinished (lentAnswer (changed c) b .reply) n)))
+own-refused room (here b) (changing c) n = ap here (sym (left b (lentAnswer (changed c) b) (is-refused (lentAnswer (changed c) b .reply) n)))
 own-refused room (here b) (asking q) n = refl
 own-refused room (here b) (drawing line ula tile dots) n = refl
 
@@ -230,7 +225,7 @@ seatedHasState d m k s = go (ownOf d m) refl (own-is-record d (formed d k) m)
 module _ (d : List ℕ) (m : ℕ) (s : State) (k : IsDesk d) (h : HasState d m s) where
   -- the call of the seated member
   state-call : (c : Call) → deskCall d m c ≡ settledBy d m (seatedCall (recordOf s) c)
-  state-call c = on-own d (k .formed) m c ∙ ap (λ (o : Own). settledBy d m (ownCall (hasRoom d) o c)) (h .own)
+  state-call c = by-own d (k .formed) m c (here (recordOf s)) (h .own)
 
   change-replies : (c : Change) → deskCall d m (changing c) .outcome .reply ≡ changed c s .reply
   change-replies c =

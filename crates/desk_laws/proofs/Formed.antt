@@ -1,6 +1,6 @@
 -- A desk seat by seat: `Formed` says of each seat, and of every two, what `wellFormed` tests, and the two are the same for bytes. And what
 -- a number has of a desk, by where it sits.
-use Prim.Native.Nat.{ℕ, _<_}
+use Prim.Native.Nat.{ℕ, _≤_, _<_}
 use native.Mathlib.Nat.{lt-trans}
 use mathlib.Core.Path.{_≡_, refl, sym, ap, _∙_}
 use mathlib.Core.Bool.{Bool, true, false, cond, not, _&&_}
@@ -8,7 +8,7 @@ use mathlib.Core.List.{List}
 use native.Mathlib.Omega.{arith}
 use lib.ListN.{length, drop}
 use lib.Dec.{ltb}
-use borrow.Author.Tests.{ltb-true, ltb-false, lt-ltb, le-ltb, eq-eqb}
+use borrow.Author.Tests.{ltb-true, ltb-false, eq-eqb}
 use Rattle.lists.specs.Bytes.{Bytes}
 use Rattle.lists.specs.Search.{least, some}
 use Rattle.lists.proofs.Bytes.{bytes-drop}
@@ -17,11 +17,12 @@ use Rattle.lists.proofs.Cond.{if-true, if-false}
 use Rattle.record_layout.specs.Version.{current}
 use Rattle.record_layout.specs.Claims.{IsRecord}
 use Rattle.desk_seats.specs.Seats.{seats, deskLength, seatAt, isHeld, numberOf, isFree, isRecord, isSeat, sits}
-use Rattle.desk_places.specs.Desks.{isAgain, wellFormed, placeOf, isSeated}
+use Rattle.desk_places.specs.Desks.{isAgain, wellFormed, placeOf}
 use Rattle.desk_seats.proofs.Tests.{sits-held, sits-number}
 use Rattle.desk_places.proofs.Judged.{formed-long, formed-seat, formed-once}
 use Rattle.desk.specs.Own.{away, here}
 use Rattle.desk.specs.Desk.{ownOf}
+use Rattle.desk.proofs.Exits.{own-away, own-seat}
 use Rattle.desk_laws.specs.Claims.{IsDesk}
 use Rattle.desk_laws.proofs.Bytes.{bytes-seat}
 use Rattle.desk_laws.proofs.Records.{record-accepted, accepted-record}
@@ -53,24 +54,15 @@ module _ (d : List ℕ) (m : ℕ) where
           at (least (λ i. sits m (seatAt d i)) seats) l (least-found (λ i. sits m (seatAt d i)) seats .here l) refl
       go false e = nowhere (λ i l. some-not (λ i. sits m (seatAt d i)) seats i e l)
 
-  pub seated-at : (i : ℕ) → i < seats → placeOf d m ≡ i → isSeated d m ≡ true
-  seated-at i l e = lt-ltb (placeOf d m) seats (omega arith)
-
-  pub not-seated : ((i : ℕ) → i < seats → sits m (seatAt d i) ≡ false) → isSeated d m ≡ false
+  pub unplaced : ((i : ℕ) → i < seats → sits m (seatAt d i) ≡ false) → seats ≤ placeOf d m
   unfolding placeOf
-  not-seated h = le-ltb (placeOf d m) seats (omega (arith, least-none (λ i. sits m (seatAt d i)) seats h))
+  unplaced h = omega (arith, least-none (λ i. sits m (seatAt d i)) seats h)
 
   pub own-nowhere : ((i : ℕ) → i < seats → sits m (seatAt d i) ≡ false) → ownOf d m ≡ away
-  unfolding ownOf
-  own-nowhere h = if-false (isSeated d m) (here (drop 3 (seatAt d (placeOf d m)))) away (not-seated h)
-
-  pub own-place : (i : ℕ) → i < seats → placeOf d m ≡ i → ownOf d m ≡ here (drop 3 (seatAt d i))
-  unfolding ownOf
-  own-place i l e =
-      if-true (isSeated d m) (here (drop 3 (seatAt d (placeOf d m)))) away (seated-at i l e) ∙ ap (λ (k : ℕ). here (drop 3 (seatAt d k))) e
+  own-nowhere h = own-away d m (unplaced h)
 
   pub own-at : Formed d → (i : ℕ) → i < seats → sits m (seatAt d i) ≡ true → ownOf d m ≡ here (drop 3 (seatAt d i))
-  own-at f i l h = own-place i l (go where-is)
+  own-at f i l h = own-seat d m i l (sym (go where-is))
     where
       go : Where d m → placeOf d m ≡ i
       go (at j k g e) = e ∙ f .once m j i k l g h

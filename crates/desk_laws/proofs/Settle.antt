@@ -13,20 +13,21 @@ use borrow.Author.Tests.{ltb-true, eq-eqb, ne-eqb, not-true}
 use Rattle.lists.specs.Placed.{placed}
 use Rattle.lists.proofs.Bytes.{bytes-append, bytes-take, bytes-zeros}
 use Rattle.lists.proofs.Search.{not-both, least-found, all-of}
-use Rattle.lists.proofs.Cond.{if-true, if-false, right-false}
+use Rattle.lists.proofs.Cond.{right-false}
 use Rattle.record_layout.specs.Version.{current}
 use Rattle.record_layout.specs.Record.{recordLength}
 use Rattle.record_layout.specs.Claims.{IsRecord}
 use Rattle.desk_seats.specs.Seats.{seats, seatLength, zeros, seatAt, isHeld, numberOf, isFree, sits, seatOf}
-use Rattle.desk_places.specs.Desks.{placeOf, isSeated, freeOf, hasRoom}
+use Rattle.desk_places.specs.Desks.{freeOf, hasRoom}
 use Rattle.desk_seats.proofs.Cuts.{length-seat, placed-record}
 use Rattle.desk_seats.proofs.Tests.{sits-held, sits-number}
 use Rattle.desk.specs.Own.{Own, away, here}
 use Rattle.desk.specs.Desk.{ownOf, settled}
 use Rattle.desk_places.proofs.Found.{room-free}
+use Rattle.desk.proofs.Exits.{settled-away, settled-new, settled-here, settled-gone}
 use Rattle.desk_laws.proofs.Bytes.{bytes-seat, bytes-new}
 use Rattle.desk_laws.proofs.Records.{OwnRecord, record-length, record-bytes}
-use Rattle.desk_laws.proofs.Formed.{GoodSeat, Formed, Where, at, nowhere, where-is, seated-at, not-seated, own-nowhere}
+use Rattle.desk_laws.proofs.Formed.{GoodSeat, Formed, Where, at, nowhere, where-is, unplaced, own-nowhere}
 use Rattle.desk_laws.proofs.Change.{Settled, Moves, moved-here, moved-away}
 
 -- ---- who sits on a seat
@@ -158,25 +159,11 @@ module _ (d : List ℕ) (n : ℕ) (ln : n < 65536) (f : Formed d) where
 
   -- what n has afterwards is a record, and a seat is taken only where there is room
   pub settles : (o : Own) → OwnRecord o → ((b : List ℕ) → o ≡ here b → ownOf d n ≡ away → hasRoom d ≡ true) → Settled d n o (settled d n o)
-  unfolding settled
   settles o = go (where-is d n) o
     where
       go : Where d n → (o : Own) → OwnRecord o → ((b : List ℕ) → o ≡ here b → ownOf d n ≡ away → hasRoom d ≡ true) → Settled d n o (settled d n o)
-      go (at i l h q) away k r =
-          subst (Settled d n away)
-          (sym (if-true (isSeated d n) (placed d (placeOf d n * seatLength) (zeros seatLength)) d (seated-at d n i l q)
-          ∙ ap (λ (x : ℕ). placed d (x * seatLength) (zeros seatLength)) q))
-          (leaves i l h)
-      go (at i l h q) (here b) k r =
-          subst (Settled d n (here b))
-          (sym (if-true (isSeated d n) (placed d (placeOf d n * seatLength + 3) b) (placed d (freeOf d * seatLength) (seatOf n b)) (seated-at d n i l q)
-          ∙ ap (λ (x : ℕ). placed d (x * seatLength + 3) b) q))
-          (stays i l h b k)
-      go (nowhere z) away k r =
-          subst (Settled d n away)
-          (sym (if-false (isSeated d n) (placed d (placeOf d n * seatLength) (zeros seatLength)) d (not-seated d n z)))
-          (unmoved z)
+      go (at i l h q) away k r = subst (Settled d n away) (sym (settled-gone d n i l (sym q))) (leaves i l h)
+      go (at i l h q) (here b) k r = subst (Settled d n (here b)) (sym (settled-here d n i l (sym q) b)) (stays i l h b k)
+      go (nowhere z) away k r = subst (Settled d n away) (sym (settled-away d n (unplaced d n z))) (unmoved z)
       go (nowhere z) (here b) k r =
-          subst (Settled d n (here b))
-          (sym (if-false (isSeated d n) (placed d (placeOf d n * seatLength + 3) b) (placed d (freeOf d * seatLength) (seatOf n b)) (not-seated d n z)))
-          (comes z (r b refl (own-nowhere d n z)) b k)
+          subst (Settled d n (here b)) (sym (settled-new d n (unplaced d n z) b)) (comes z (r b refl (own-nowhere d n z)) b k)

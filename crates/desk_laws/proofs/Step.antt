@@ -9,10 +9,10 @@ use Rattle.desk_places.specs.Desks.{hasRoom}
 use Rattle.desk_seats.proofs.Tests.{sits-held}
 use Rattle.desk.specs.Own.{Call, Own, away, here, OwnResult, isOpening, opened, notOpen, ownCall}
 use Rattle.desk.specs.Desk.{DeskResult, ownOf, settled, settledBy, deskCall}
-use Rattle.desk.proofs.Exits.{on-own}
+use Rattle.desk.proofs.Exits.{own-seat, on-own}
 use Rattle.desk_laws.specs.Runs.{asksRoom, withRoom, CallTyped}
 use Rattle.desk_laws.proofs.Records.{OwnRecord, own-kept}
-use Rattle.desk_laws.proofs.Formed.{Formed, Where, at, nowhere, where-is, own-nowhere, own-place, formed-well}
+use Rattle.desk_laws.proofs.Formed.{Formed, Where, at, nowhere, where-is, own-nowhere, formed-well}
 use Rattle.desk_laws.proofs.Change.{Settled}
 use Rattle.desk_laws.proofs.Settle.{settles}
 
@@ -43,7 +43,7 @@ module _ (d : List ℕ) (f : Formed d) (n : ℕ) where
   own-is-record = go (where-is d n)
     where
       go : Where d n → OwnRecord (ownOf d n)
-      go (at i l h q) = subst OwnRecord (sym (own-place d n i l q)) (f .good i l .held (sits-held n (seatAt d i) h))
+      go (at i l h q) = subst OwnRecord (sym (own-seat d n i l (sym q))) (f .good i l .held (sits-held n (seatAt d i) h))
       go (nowhere z) = subst OwnRecord (sym (own-nowhere d n z)) tt
 
   module _ (c : Call) where

@@ -1,6 +1,6 @@
 -- The exits of the search for a member's seat and of that for a free one, and what a place that is found, or a refusal, tells of the desk.
 use Prim.Native.Nat.{ℕ, _≤_, _<_}
-use mathlib.Core.Path.{_≡_, refl, sym, ap, _∙_}
+use mathlib.Core.Path.{_≡_, refl, sym, ap, _∙_, subst}
 use mathlib.Core.Bool.{Bool, true, false, cond}
 use mathlib.Core.List.{List}
 use native.Mathlib.Omega.{arith}
@@ -40,26 +40,25 @@ module _ (d : List ℕ) (m : ℕ) where
   unfolding placeIn
   find-bad w = rw w
 
-  -- and back
-  pub at-place : (i : ℕ) (r : Place) → r ≡ placeIn d m → r ≡ At i → SitsAt d m i
+  -- and back: what each answer of the search tells
+  abbrev Tells : Place → Type 0
+  Tells (At i) = SitsAt d m i
+  Tells (Refused r) = Unplaced d m r
+
+  tells : Tells (placeIn d m)
   unfolding placeIn
-  at-place i r e q = go (wellFormed d) refl (isSeated d m) refl (sym e ∙ q)
+  tells = go (wellFormed d) refl (isSeated d m) refl
     where
-      go : (a : Bool) → wellFormed d ≡ a → (b : Bool) → isSeated d m ≡ b
-          → cond a (cond b (At (placeOf d m)) (Refused NotOpen)) (Refused BadDesk) ≡ At i → SitsAt d m i
-      go true w true s z = let p : i ≡ placeOf d m = cc in record { formed = w; below = omega (arith, ltb-true (placeOf d m) seats s); place = p }
-      go true w false s z = let f : _≡_ {A = ℕ} 0 1 = cc in absurd (omega arith)
-      go false w b s z = let f : _≡_ {A = ℕ} 0 1 = cc in absurd (omega arith)
+      go : (a : Bool) → wellFormed d ≡ a → (b : Bool) → isSeated d m ≡ b → Tells (cond a (cond b (At (placeOf d m)) (Refused NotOpen)) (Refused BadDesk))
+      go true w true s = record { formed = w; below = ltb-true (placeOf d m) seats s; place = refl }
+      go true w false s = not-seated w (ltb-false (placeOf d m) seats s) refl
+      go false w b s = not-formed w refl
+
+  pub at-place : (i : ℕ) (p : Place) → p ≡ placeIn d m → p ≡ At i → SitsAt d m i
+  at-place i p e q = subst Tells (sym e ∙ q) tells
 
   pub refused-place : (r : Reply) (p : Place) → p ≡ placeIn d m → p ≡ Refused r → Unplaced d m r
-  unfolding placeIn
-  refused-place r p e q = go (wellFormed d) refl (isSeated d m) refl (sym e ∙ q)
-    where
-      go : (a : Bool) → wellFormed d ≡ a → (b : Bool) → isSeated d m ≡ b
-          → cond a (cond b (At (placeOf d m)) (Refused NotOpen)) (Refused BadDesk) ≡ Refused r → Unplaced d m r
-      go true w true s z = let f : _≡_ {A = ℕ} 0 1 = cc in absurd (omega arith)
-      go true w false s z = let k : NotOpen ≡ r = cc in not-seated w (ltb-false (placeOf d m) seats s) k
-      go false w b s z = let k : BadDesk ≡ r = cc in not-formed w k
+  refused-place r p e q = subst Tells (sym e ∙ q) tells
 
 -- ---- a free seat for a member that opens
 
@@ -105,27 +104,24 @@ module _ (d : List ℕ) (m : ℕ) where
   open-bad w = sym (if-false (wellFormed d) (freeFor d m) (Refused BadDesk) w)
 
   -- and back
-  abbrev chosen : Bool → Bool → Bool → Place
-  chosen a b r = cond a (cond b (Refused AlreadyOpen) (cond r (At (freeOf d)) (Refused DeskFull))) (Refused BadDesk)
+  abbrev TellsFree : Place → Type 0
+  TellsFree (At i) = FreeAt d m i
+  TellsFree (Refused r) = Unopened d m r
 
-  pub at-free : (i : ℕ) (r : Place) → r ≡ freeIn d m → r ≡ At i → FreeAt d m i
+  tells-free : TellsFree (freeIn d m)
   unfolding freeIn freeFor
-  at-free i r e q = go (wellFormed d) refl (isSeated d m) refl (hasRoom d) refl (sym e ∙ q)
+  tells-free = go (wellFormed d) refl (isSeated d m) refl (hasRoom d) refl
     where
-      go : (a : Bool) → wellFormed d ≡ a → (b : Bool) → isSeated d m ≡ b → (x : Bool) → hasRoom d ≡ x → chosen a b x ≡ At i → FreeAt d m i
-      go true w false s true h z =
-          let p : i ≡ freeOf d = cc in
-          record { formed = w; unseated = ltb-false (placeOf d m) seats s; below = omega (arith, ltb-true (freeOf d) seats (sym (room-free d) ∙ h)); place = p }
-      go true w false s false h z = let f : _≡_ {A = ℕ} 0 1 = cc in absurd (omega arith)
-      go true w true s x h z = let f : _≡_ {A = ℕ} 0 1 = cc in absurd (omega arith)
-      go false w b s x h z = let f : _≡_ {A = ℕ} 0 1 = cc in absurd (omega arith)
+      go : (a : Bool) → wellFormed d ≡ a → (b : Bool) → isSeated d m ≡ b → (x : Bool) → hasRoom d ≡ x
+          → TellsFree (cond a (cond b (Refused AlreadyOpen) (cond x (At (freeOf d)) (Refused DeskFull))) (Refused BadDesk))
+      go true w false s true h =
+          record { formed = w; unseated = ltb-false (placeOf d m) seats s; below = ltb-true (freeOf d) seats (sym (room-free d) ∙ h); place = refl }
+      go true w false s false h = full w (ltb-false (placeOf d m) seats s) h refl
+      go true w true s x h = seated w (ltb-true (placeOf d m) seats s) refl
+      go false w b s x h = bad-desk w refl
+
+  pub at-free : (i : ℕ) (p : Place) → p ≡ freeIn d m → p ≡ At i → FreeAt d m i
+  at-free i p e q = subst TellsFree (sym e ∙ q) tells-free
 
   pub refused-free : (r : Reply) (p : Place) → p ≡ freeIn d m → p ≡ Refused r → Unopened d m r
-  unfolding freeIn freeFor
-  refused-free r p e q = go (wellFormed d) refl (isSeated d m) refl (hasRoom d) refl (sym e ∙ q)
-    where
-      go : (a : Bool) → wellFormed d ≡ a → (b : Bool) → isSeated d m ≡ b → (x : Bool) → hasRoom d ≡ x → chosen a b x ≡ Refused r → Unopened d m r
-      go true w false s true h z = let f : _≡_ {A = ℕ} 0 1 = cc in absurd (omega arith)
-      go true w false s false h z = let k : DeskFull ≡ r = cc in full w (ltb-false (placeOf d m) seats s) h k
-      go true w true s x h z = let k : AlreadyOpen ≡ r = cc in seated w (ltb-true (placeOf d m) seats s) k
-      go false w b s x h z = let k : BadDesk ≡ r = cc in bad-desk w k
+  refused-free r p e q = subst TellsFree (sym e ∙ q) tells-free

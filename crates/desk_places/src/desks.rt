@@ -10,9 +10,9 @@ use desk_seats::SEAT;
 use desk_seats::SEATS;
 use desk_seats::is_held;
 use desk_seats::is_seat;
-use desk_seats::make_zero;
 use desk_seats::number_of;
 use desk_seats::seat_at;
+use lists::zero;
 use reply::Reply;
 
 fn is_again(desk: &[u8], i: usize) -> bool
@@ -52,7 +52,7 @@ pub fn start(desk: &mut [u8]) -> Reply
     ensures { λ r. ⌜ (r ≡ startReply (now (desk .entry))) × (now (desk .exit) ≡ started (now (desk .entry))) ⌝ }
 {
     if desk.len() == SEATS * SEAT {
-        make_zero(desk);
+        zero(desk);
         Reply::Done
     } else {
         Reply::BufferLength

@@ -1,22 +1,13 @@
--- Bytes made 0 one by one, and a new seat: its first bytes are stored one by one and its record is lent.
-use Prim.Native.Nat.{ℕ, _+_, _/_, _%_, _-_, _≤_, _<_}
-use mathlib.Core.Path.{_≡_, sym, ap, _∙_}
+-- A new seat: its first bytes are stored one by one and its record is lent.
+use Prim.Native.Nat.{ℕ, _+_, _/_, _%_, _-_, _≤_}
+use mathlib.Core.Path.{_≡_, ap, _∙_}
 use mathlib.Core.List.{List, [], _∷_, _++_, append-nil}
-use native.Mathlib.Numerals.{add-one}
 use native.Mathlib.Omega.{arith}
-use lib.ListN.{length, take, drop, set, length-set, drop-of-length-le, replicate-append-replicate}
-use lib.Seq.{take-suc-set, take-all}
+use lib.ListN.{length, take, drop, set, length-set, drop-of-length-le}
 use Rattle.lists.proofs.Cuts.{cut-length}
 use Rattle.record_layout.specs.Version.{current}
 use Rattle.record_layout.specs.Record.{recordLength}
-use Rattle.desk_seats.specs.Seats.{seatLength, zeros, seatOf}
-
-pub zeros-next : (l : List ℕ) (k : ℕ) → k < length l → take k l ≡ zeros k → take (k + 1) (set l k 0) ≡ zeros (k + 1)
-zeros-next l k h e =
-    rw (add-one, take-suc-set l k 0 h, e) (replicate-append-replicate {A = ℕ} k 1 0 ∙ ap (λ (n : ℕ). zeros n) (add-one k))
-
-pub zeros-all : (l : List ℕ) (n : ℕ) → length l ≡ n → take n l ≡ zeros n → l ≡ zeros n
-zeros-all l n e p = sym (take-all n l (omega arith)) ∙ p
+use Rattle.desk_seats.specs.Seats.{seatLength, seatOf}
 
 -- a seat with its first three bytes stored
 abbrev begun : List ℕ → ℕ → List ℕ

@@ -1,4 +1,4 @@
-// One seat of a desk: whether it is held, by whom, and with what; one taken, and one given up.
+// One seat of a desk: whether it is held, by whom, and with what; and one taken.
 mod seats;
 mod taking;
 
@@ -10,5 +10,4 @@ pub use seats::number_of;
 pub use seats::record_at;
 pub use seats::seat_at;
 pub use seats::sits_on;
-pub use taking::make_zero;
 pub use taking::take_seat;

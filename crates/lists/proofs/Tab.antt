@@ -7,7 +7,7 @@ use mathlib.Core.Logic.{⊎-elim}
 use native.Mathlib.Nat.{add-suc, add-zero, eq-or-lt-of-le, le-of-suc-le-suc}
 use native.Mathlib.Numerals.{add-one}
 use native.Mathlib.Omega.{arith}
-use lib.ListN.{length, take, drop, set, getD, length-append, length-set, List·getD-append}
+use lib.ListN.{length, take, drop, set, getD, replicate, length-append, length-set, replicate-append-replicate, List·getD-append}
 use lib.Seq.{take-suc-set, take-all, take-at, drop-at, drop-drop, length-take-le, getD-at, ext-getD}
 use Rattle.lists.specs.Tab.{tab}
 
@@ -101,3 +101,9 @@ tab-patch f g h a n b p q r =
     let m : tab g n ≡ tab (λ (k : ℕ). h (a + k)) n = tab-ext _ _ n q in
     let d : drop (a + n) (tab f (a + n + b)) ≡ tab (λ (k : ℕ). h (a + n + k)) b = drop-tab f (a + n) b ∙ tab-ext _ _ b r in
     rw (t, m, drop-drop n a (tab f (a + n + b)), d, tab-join h (a + n) b, tab-join h a n, append-assoc)
+
+-- n times 0
+pub tab-zeros : (n : ℕ) → tab (λ (k : ℕ). 0) n ≡ replicate n 0
+unfolding tab
+tab-zeros zero = refl
+tab-zeros (suc n) = rw (tab-zeros n) (replicate-append-replicate {A = ℕ} n 1 0 ∙ ap (λ (k : ℕ). replicate k 0) (add-one n))

@@ -1,9 +1,10 @@
-// Lists that several crates speak of, with their laws; bytes put into a buffer, and a byte as a wider number.
+// Lists that several crates speak of, with their laws; bytes put into a buffer, a buffer made all 0, and a byte as a wider number.
 mod placing;
 
 ghost use mathlib.Core.Path.{_≡_};
 ghost use Prim.Native.Nat.{_<_};
 pub use placing::put;
+pub use placing::zero;
 
 // A byte as an index. The bound goes into the contract, since of a byte read from a slice a cast's own is lost.
 pub fn usize_of(x: u8) -> usize

@@ -4,15 +4,8 @@ ghost use Prim.Native.Nat.{ℕ, _+_, _*_, _≤_, _<_};
 ghost use lib.ListN.{length, getD};
 ghost use Rattle.lists.specs.Tab.{tab};
 ghost use Rattle.pack_rule.specs.Greedy.{defCells, tileCount, defByte, packedDefs};
+use lists::zero;
 use pack_cells::cell_bytes;
-
-fn zero(out: &mut [u8])
-    ensures { λ r. ⌜ now (out .exit) ≡ tab (λ (i : ℕ). 0) (length (now (out .entry))) ⌝ }
-{
-    for i in 0..out.len() {
-        out[i] = 0;
-    }
-}
 
 // Definition d: the bytes of its cell, one of the n listed, or 0 where it is not used.
 fn write_definition(pic: &[u8], cells: &[usize], n: usize, d: usize, out: &mut [u8])

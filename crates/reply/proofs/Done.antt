@@ -25,6 +25,9 @@ done-is n r e z = eq-eqb _ _ (sym e ∙ z)
 pub not-done : (n : ℕ) (r : Reply) → n ≡ replyNumber r → (n ≡ 0 → ⊥) → isDone r ≡ false
 not-done n r e z = ne-eqb _ _ (λ q. z (e ∙ q))
 
+pub is-refused : (r : Reply) → (r ≡ Done → ⊥) → isDone r ≡ false
+is-refused r n = not-done (replyNumber r) r refl (λ z. n (number-done r z))
+
 -- what refuses is not done
 pub refused : (r : Reply) → isDone r ≡ false → r ≡ Done → ⊥
 refused r e d =

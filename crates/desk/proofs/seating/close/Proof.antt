@@ -22,17 +22,17 @@ mul-at c = omega (arith, (at-place _ _ _ _ (c .before .before .before .find .ens
 add-end : tie.Need-add-end
 add-end c = omega (arith, (at-place _ _ _ _ (c .before .before .before .find .ensures) (c .before .i .given .1)) .below)
 
-sub-make-zero : tie.Need-sub-make-zero
-sub-make-zero c = search needs
+sub-zero : tie.Need-sub-zero
+sub-zero c = search needs
 
-part-make-zero-start : tie.Need-part-make-zero-start
-part-make-zero-start c = search needs
+part-zero-start : tie.Need-part-zero-start
+part-zero-start c = search needs
 
-part-make-zero-end : tie.Need-part-make-zero-end
-part-make-zero-end c = let s = at-place _ _ _ _ (c .before .before .before .find .ensures) (c .before .i .given .1) in omega (arith, inside _ (s .formed) _ (s .below))
+part-zero-end : tie.Need-part-zero-end
+part-zero-end c = let s = at-place _ _ _ _ (c .before .before .before .find .ensures) (c .before .i .given .1) in omega (arith, inside _ (s .formed) _ (s .below))
 
-make-zero-requires : tie.Need-make-zero-requires
-make-zero-requires c κs = search needs
+zero-requires : tie.Need-zero-requires
+zero-requires c κs = search needs
 
 same-length : tie.Need-same-length
 same-length c = search needs
@@ -44,7 +44,7 @@ same-length-2 : tie.Need-same-length-2
 same-length-2 c = search needs
 
 returns-2 : tie.Need-returns-2
-returns-2 c = let s = at-place _ _ _ _ (c .before .before .before .before .before .before .before .find .ensures) (c .before .before .before .before .before .i .given .1) in exit-closed _ _ _ s _ (c .before .desk .given .0) (c .before .before .make-zero .ensures)
+returns-2 c = let s = at-place _ _ _ _ (c .before .before .before .before .before .before .before .find .ensures) (c .before .before .before .before .before .i .given .1) in exit-closed _ _ _ s _ (c .before .desk .given .0) (c .before .before .zero .ensures)
 
 pub close-spec : {M : Type 1} → statement M
 close-spec =
@@ -55,10 +55,10 @@ close-spec =
     enum-known-i
     mul-at
     add-end
-    sub-make-zero
-    part-make-zero-start
-    part-make-zero-end
-    make-zero-requires
+    sub-zero
+    part-zero-start
+    part-zero-end
+    zero-requires
     same-length
     returns
     same-length-2

@@ -7,17 +7,17 @@ use Rattle.desk_places.proofs.desks.start.Tie as tie
 mul-if1 : tie.Need-mul-if1
 mul-if1 c = search needs
 
-make-zero-requires : tie.Need-make-zero-requires
-make-zero-requires c κs = search needs
+zero-requires : tie.Need-zero-requires
+zero-requires c κs = search needs
 
 same-length : tie.Need-same-length
 same-length c = search needs
 
 returns : tie.Need-returns
-returns c = start-done (c .before .before .before .before .before .before .args .desk .now) _ (c .before .before .before .before .if1 .taken) (c .before .before .make-zero .ensures)
+returns c = start-done (c .before .before .before .before .before .before .args .desk .now) _ (c .before .before .before .before .if1 .taken) (c .before .before .zero .ensures)
 
 returns-2 : tie.Need-returns-2
 returns-2 c = start-refused (c .before .before .args .desk .now) (c .if1 .left)
 
 pub start-spec : {M : Type 1} → statement M
-start-spec = tie.close (tie.spec mul-if1 make-zero-requires same-length returns returns-2)
+start-spec = tie.close (tie.spec mul-if1 zero-requires same-length returns returns-2)

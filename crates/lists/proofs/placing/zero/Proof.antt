@@ -1,13 +1,13 @@
 -- The loop of `zero`: the first i bytes are 0.
 use Rattle.lists.proofs.Tab.{tab-none, tab-step, tab-done}
 use Rattle.lists.specs.Tab.{tab}
 use lib.ListN.{length, take, length-set}
 use Prim.Native.Nat.{ℕ, _≤_, _-_}
 use borrow.Author.Needs.{needs}
 use native.Mathlib.Omega.{arith}
 use mathlib.Core.Path.{_≡_, refl}
-use Rattle.pack_parts.proofs.definitions.zero.Statement.{statement}
-use Rattle.pack_parts.proofs.definitions.zero.Tie as tie
+use Rattle.lists.proofs.placing.zero.Statement.{statement}
+use Rattle.lists.proofs.placing.zero.Tie as tie
 
 abbrev Inv-loop : tie.InvT-loop
 Inv-loop out₀ i₀ i-end out i = (i ≤ length out₀) × (i-end ≡ length out₀) × (length out ≡ length out₀) × (take i out ≡ tab (λ (k : ℕ). 0) i)
