@@ -6,7 +6,7 @@ use native.Mathlib.Omega.{arith}
 use Rattle.reply.specs.Reply.{replyNumber}
 use Rattle.reply.specs.Claims.{NumberTells, NoThirteen}
 use Rattle.reply.specs.declared.Reply.{Reply}
-use Rattle.reply.specs.declared.Reply.the-variants.{Done, NoLine, BankLength, BufferLength, NotLawful, NoMode, LoresWithTiles, NextWithPlus, FarOffset, NoRegister, OutOfBounds, TooManyTiles, PackingBounds, NoForm, PairsDiffer, WrongCount, WrongVersion, BadField, NoOrder, BadDot, BadDesk, AlreadyOpen, NotOpen, DeskFull}
+use Rattle.reply.specs.declared.Reply.the-variants.{Done, NoLine, BankLength, BufferLength, NotLawful, NoMode, LoresWithTiles, NextWithPlus, FarOffset, NoRegister, OutOfBounds, TooManyTiles, PackingBounds, NoForm, PairsDiffer, WrongCount, WrongVersion, BadField, NoOrder, BadDot, BadDesk, AlreadyOpen, NotOpen, DeskFull, BadTrace, LinesFall}
 
 -- the member of a list at a number
 at : List Reply → ℕ → Reply
@@ -41,6 +41,8 @@ replies =
     ∷ AlreadyOpen
     ∷ NotOpen
     ∷ DeskFull
+    ∷ BadTrace
+    ∷ LinesFall
     ∷ []
 
 found : (r : Reply) → at replies (replyNumber r) ≡ r
@@ -69,6 +71,8 @@ found BadDesk = refl
 found AlreadyOpen = refl
 found NotOpen = refl
 found DeskFull = refl
+found BadTrace = refl
+found LinesFall = refl
 
 pub numberTells : NumberTells
 numberTells a b e = sym (found a) ∙ ap (at replies) e ∙ found b

@@ -3,7 +3,7 @@ use Prim.Native.Nat.{ℕ}
 use mathlib.Core.Bool.{Bool}
 use lib.Dec.{eqb}
 use Rattle.reply.specs.declared.Reply.{Reply}
-use Rattle.reply.specs.declared.Reply.the-variants.{Done, NoLine, BankLength, BufferLength, NotLawful, NoMode, LoresWithTiles, NextWithPlus, FarOffset, NoRegister, OutOfBounds, TooManyTiles, PackingBounds, NoForm, PairsDiffer, WrongCount, WrongVersion, BadField, NoOrder, BadDot, BadDesk, AlreadyOpen, NotOpen, DeskFull}
+use Rattle.reply.specs.declared.Reply.the-variants.{Done, NoLine, BankLength, BufferLength, NotLawful, NoMode, LoresWithTiles, NextWithPlus, FarOffset, NoRegister, OutOfBounds, TooManyTiles, PackingBounds, NoForm, PairsDiffer, WrongCount, WrongVersion, BadField, NoOrder, BadDot, BadDesk, AlreadyOpen, NotOpen, DeskFull, BadTrace, LinesFall}
 
 -- the number of each row of the table
 abbrev pub replyNumber : Reply → ℕ
@@ -56,6 +56,10 @@ replyNumber AlreadyOpen = 22
 replyNumber NotOpen = 23
 -- open, where all sixteen seats are held
 replyNumber DeskFull = 24
+-- a trace that is not well formed
+replyNumber BadTrace = 25
+-- a trace whose lines fall
+replyNumber LinesFall = 26
 
 -- a reply that refuses nothing
 abbrev pub isDone : Reply → Bool

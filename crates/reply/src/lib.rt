@@ -33,6 +33,8 @@ pub enum Reply {
     AlreadyOpen,
     NotOpen,
     DeskFull,
+    BadTrace,
+    LinesFall,
 }
 
 // The paper's number of a reply. 13 is retired: 16, 17 and 18 stand in its place.
@@ -64,5 +66,7 @@ pub fn number(r: Reply) -> u8
         Reply::AlreadyOpen => 22,
         Reply::NotOpen => 23,
         Reply::DeskFull => 24,
+        Reply::BadTrace => 25,
+        Reply::LinesFall => 26,
     }
 }
