@@ -3,14 +3,17 @@ use borrow.Author.Needs.{needs}
 use Rattle.register_answers.proofs.if_fits.Statement.{statement}
 use Rattle.register_answers.proofs.if_fits.Tie as tie
 
-accept-requires : tie.Need-accept-requires
-accept-requires c κs = search needs
+accept-apart-requires : tie.Need-accept-apart-requires
+accept-apart-requires c κs = search needs
+
+out-of-bounds-requires : tie.Need-out-of-bounds-requires
+out-of-bounds-requires c κs = search needs
 
 returns : tie.Need-returns
-returns c = rw (c .before .if1 .taken) (c .accept .ensures)
+returns c = rw (c .before .if1 .taken) (c .accept-apart .ensures)
 
 returns-2 : tie.Need-returns-2
-returns-2 c = rw (c .if1 .left)
+returns-2 c = rw (c .before .if1 .left) (c .out-of-bounds .ensures)
 
 pub if-fits-spec : {M : Type 1} → statement M
-if-fits-spec = tie.close (tie.spec accept-requires returns returns-2)
+if-fits-spec = tie.close (tie.spec accept-apart-requires out-of-bounds-requires returns returns-2)

@@ -4,54 +4,62 @@ use borrow.Author.Needs.{needs}
 use Rattle.register_colours.proofs.store_colour.Statement.{statement}
 use Rattle.register_colours.proofs.store_colour.Tie as tie
 
-mul-t : tie.Need-mul-t
-mul-t c = search needs
+cast-i : tie.Need-cast-i
+cast-i c = search needs
 
-element-write-t : tie.Need-element-write-t
-element-write-t c = search needs
+choice-of-requires : tie.Need-choice-of-requires
+choice-of-requires c κs = search needs
 
-mul-t-2 : tie.Need-mul-t-2
-mul-t-2 c = search needs
+mul-ulafirst : tie.Need-mul-ulafirst
+mul-ulafirst c = search needs
 
-element-write-t-2 : tie.Need-element-write-t-2
-element-write-t-2 c = search needs
+element-write-ulafirst : tie.Need-element-write-ulafirst
+element-write-ulafirst c = search needs
 
-mul-t-3 : tie.Need-mul-t-3
-mul-t-3 c = search needs
+mul-ulasecond : tie.Need-mul-ulasecond
+mul-ulasecond c = search needs
 
-element-write-t-3 : tie.Need-element-write-t-3
-element-write-t-3 c = search needs
+element-write-ulasecond : tie.Need-element-write-ulasecond
+element-write-ulasecond c = search needs
 
-mul-t-4 : tie.Need-mul-t-4
-mul-t-4 c = search needs
+mul-tilefirst : tie.Need-mul-tilefirst
+mul-tilefirst c = search needs
 
-element-write-t-4 : tie.Need-element-write-t-4
-element-write-t-4 c = search needs
+element-write-tilefirst : tie.Need-element-write-tilefirst
+element-write-tilefirst c = search needs
+
+mul-tilesecond : tie.Need-mul-tilesecond
+mul-tilesecond c = search needs
+
+element-write-tilesecond : tie.Need-element-write-tilesecond
+element-write-tilesecond c = search needs
 
 returns : tie.Need-returns
-returns c = rw (c .match .keys1)
+returns c = rw (← c .before .choice-of .ensures, c .match .keys1)
 
 returns-2 : tie.Need-returns-2
-returns-2 c = rw (c .match .keys2)
+returns-2 c = rw (← c .before .choice-of .ensures, c .match .keys2)
 
 returns-3 : tie.Need-returns-3
-returns-3 c = rw (c .match .keys3)
+returns-3 c = rw (← c .before .choice-of .ensures, c .match .keys3)
 
 returns-4 : tie.Need-returns-4
-returns-4 c = let r = c .match .rest in simp (ne-eqb _ _ (r .1), ne-eqb _ _ (r .0 .1), ne-eqb _ _ (r .0 .0 .1))
+returns-4 c = let r = c .match .rest in rw (← c .before .choice-of .ensures, ne-eqb _ _ (r .0 .0 .1), ne-eqb _ _ (r .0 .1), ne-eqb _ _ (r .1))
 
 pub store-colour-spec : {M : Type 1} → statement M
 store-colour-spec =
     tie.close
     (tie.spec
-    mul-t
-    element-write-t
-    mul-t-2
-    element-write-t-2
-    mul-t-3
-    element-write-t-3
-    mul-t-4
-    element-write-t-4
+    cast-i
+    choice-of-requires
+    mul-ulafirst
+    element-write-ulafirst
+    mul-ulasecond
+    element-write-ulasecond
+    mul-tilefirst
+    element-write-tilefirst
+    mul-tilesecond
+    element-write-tilesecond
     returns
     returns-2
     returns-3

@@ -1,50 +1,27 @@
--- `write_at` matches the rows of the table one by one.
-use borrow.Author.Tests.{ne-eqb}
+-- `write_at` puts the palettes back beside what was written.
+use mathlib.Core.Path.{sym, _∙_}
 use borrow.Author.Needs.{needs}
+use Rattle.register_parts.specs.Parts.{registersOf}
+use Rattle.register_ports.proofs.Apart.{ports-apart}
 use Rattle.register_ports.proofs.write_at.Statement.{statement}
 use Rattle.register_ports.proofs.write_at.Tie as tie
 
-write-border-requires : tie.Need-write-border-requires
-write-border-requires c κs = search needs
+registers-of-requires : tie.Need-registers-of-requires
+registers-of-requires c κs = search needs
 
-write-timex-requires : tie.Need-write-timex-requires
-write-timex-requires c κs = search needs
+write-port-apart-requires : tie.Need-write-port-apart-requires
+write-port-apart-requires c κs = search needs
 
-write-select-requires : tie.Need-write-select-requires
-write-select-requires c κs = search needs
-
-write-plus-requires : tie.Need-write-plus-requires
-write-plus-requires c κs = search needs
-
-no-write-requires : tie.Need-no-write-requires
-no-write-requires c κs = search needs
+answer-on-requires : tie.Need-answer-on-requires
+answer-on-requires c κs = search needs
 
 returns : tie.Need-returns
-returns c = rw (c .before .match .keys1) (c .write-border .ensures)
-
-returns-2 : tie.Need-returns-2
-returns-2 c = rw (c .before .match .keys2) (c .write-timex .ensures)
-
-returns-3 : tie.Need-returns-3
-returns-3 c = rw (c .before .match .keys3) (c .write-select .ensures)
-
-returns-4 : tie.Need-returns-4
-returns-4 c = rw (c .before .match .keys4) (c .write-plus .ensures)
-
-returns-5 : tie.Need-returns-5
-returns-5 c = let r = c .before .match .rest in simp (ne-eqb _ _ (r .1), ne-eqb _ _ (r .0 .1), ne-eqb _ _ (r .0 .0 .1), ne-eqb _ _ (r .0 .0 .0 .1)) (c .no-write .ensures)
+returns c =
+    let a = c .before .before .before .args in
+    let s = a .s in
+    (rw (c .before .write-port-apart .ensures, c .before .before .registers-of .ensures) at (c .answer-on .ensures))
+    ∙ sym (ports-apart (registersOf s) (s .ulafirst) (s .ulasecond) (s .tilefirst) (s .tilesecond) (a .port) (a .value))
 
 pub write-at-spec : {M : Type 1} → statement M
 write-at-spec =
-    tie.close
-    (tie.spec
-    write-border-requires
-    write-timex-requires
-    write-select-requires
-    write-plus-requires
-    no-write-requires
-    returns
-    returns-2
-    returns-3
-    returns-4
-    returns-5)
+    tie.close (tie.spec registers-of-requires write-port-apart-requires answer-on-requires returns)
