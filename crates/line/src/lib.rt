@@ -4,6 +4,7 @@ mod lines;
 mod parts;
 
 pub use drawer::draw;
+pub use lines::composed_chosen;
 pub use lines::composed_line;
 pub use lines::composed_shown;
 pub use parts::Shown;

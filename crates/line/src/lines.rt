@@ -10,6 +10,7 @@ ghost use Rattle.line.specs.Shown.{stateShown, ShownBounds};
 use crate::parts::Shown;
 use crate::parts::shown_of;
 use line_tiles::tiles_over;
+use register_parts::registers_of;
 use state::State;
 use state::Tiles;
 use surface::LineNumber;
@@ -58,8 +59,8 @@ pub fn composed_shown(
 }
 
 // A state's four palettes are lent by one call and chosen here: two of them held apart would be lent at two lifetimes, which no proof
-// covers.
-fn composed_chosen<'a>(
+// covers. Asks for what `composed_shown` asks.
+pub fn composed_chosen<'a>(
     v: Shown,
     ulafirst: &'a [u16; 256],
     ulasecond: &'a [u16; 256],
@@ -84,7 +85,7 @@ pub fn composed_line(s: State, line: LineNumber, ula: &[u8], tile: &[u8], out: &
     requires { ⌜ (lawfulState s ≡ true) × (isLine line ≡ true) × (length (now ula) ≡ 16384) × (length (now tile) ≡ 16384) × (length (now out) ≡ 640) ⌝ }
     ensures { λ r. ⌜ now (out .exit) ≡ composedLine s (now (ula .entry)) (now (tile .entry)) line ⌝ }
 {
-    let v = shown_of(s);
+    let v = shown_of(registers_of(s));
     composed_chosen(
         v,
         &s.ulafirst,

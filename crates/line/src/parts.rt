@@ -1,9 +1,10 @@
 // What a line shows of a state.
 ghost use mathlib.Core.Path.{_≡_};
+ghost use Rattle.register_parts.specs.Parts.{bare};
 ghost use Rattle.line.specs.Shown.{shownOf};
+use register_parts::Registers;
 use state::Palette;
 use state::Ports;
-use state::State;
 use state::Tiles;
 use state::Ula;
 
@@ -19,22 +20,22 @@ pub struct Shown {
     pub plus: [u8; 64],
 }
 
-pub fn shown_of(s: State) -> Shown
-    ensures { λ r. ⌜ r ≡ shownOf s ⌝ }
+pub fn shown_of(g: Registers) -> Shown
+    ensures { λ r. ⌜ r ≡ shownOf (bare g) ⌝ }
 {
-    let ula = s.ula;
-    let palette = s.palette;
-    let tiles = s.tiles;
-    let ports = s.ports;
-    let ulaclip = s.ulaclip;
-    let tileclip = s.tileclip;
-    let plus = s.plus;
+    let ula = g.ula;
+    let palette = g.palette;
+    let tiles = g.tiles;
+    let ports = g.ports;
+    let ulaclip = g.ulaclip;
+    let tileclip = g.tileclip;
+    let plus = g.plus;
     Shown {
         ula,
         palette,
         tiles,
         ports,
-        frame: s.frame,
+        frame: g.frame,
         ulaclip,
         tileclip,
         plus,

@@ -1,3 +1,4 @@
 pub mod Finished
 pub mod Rest
 pub mod Shaded
+pub mod Opaque

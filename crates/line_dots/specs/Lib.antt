@@ -1,2 +1,3 @@
 pub mod Compose
 pub mod Shades
+pub mod Opaque

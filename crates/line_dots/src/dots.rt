@@ -1,6 +1,7 @@
 // A composed dot, and the fallback over a line of them.
 ghost use mathlib.Core.Path.{_≡_};
 ghost use lib.ListN.{length};
+ghost use Rattle.line_dots.specs.Opaque.{opaque};
 ghost use Rattle.line_dots.specs.Compose.{stencilled, stencilOn, finished};
 ghost use Rattle.line_dots.specs.Shades.{unlessTransparent, shadeOver};
 use state::Tiles;
@@ -43,12 +44,35 @@ pub fn composed_dot(stencil: bool, u: u16, v: u16) -> u16
     }
 }
 
-// The fallback colour where a composed line is transparent.
-pub fn finish_line(fallback: u16, out: &mut [u16])
+// The fallback colour at each dot that is transparent.
+fn cover_line(fallback: u16, out: &mut [u16])
     requires { ⌜ length (now out) ≡ 640 ⌝ }
     ensures { λ r. ⌜ now (out .exit) ≡ finished fallback (now (out .entry)) ⌝ }
 {
     for k in 0..640 {
         out[k] = surface::top_dot(out[k], fallback);
     }
+}
+
+// No dot is transparent. Every dot is looked at, with no early exit, so that the loop can be vectorised.
+fn is_opaque(out: &[u16]) -> bool
+    requires { ⌜ length (now out) ≡ 640 ⌝ }
+    ensures { λ r. ⌜ r ≡ opaque (now (out .entry)) ⌝ }
+{
+    let mut ok = true;
+    for k in 0..640 {
+        ok = (out[k] != 512) & ok;
+    }
+    ok
+}
+
+// The fallback colour where a composed line is transparent. Most lines have no such dot, and to look costs less than to write them all.
+pub fn finish_line(fallback: u16, out: &mut [u16])
+    requires { ⌜ length (now out) ≡ 640 ⌝ }
+    ensures { λ r. ⌜ now (out .exit) ≡ finished fallback (now (out .entry)) ⌝ }
+{
+    if is_opaque(out) {
+        return;
+    }
+    cover_line(fallback, out);
 }

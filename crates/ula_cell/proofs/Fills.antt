@@ -1,11 +1,12 @@
 -- What the cells of a row are filled with is the dots of the display that they cover.
-use Prim.Native.Nat.{ℕ, zero, suc, _+_, _*_, _/_, _%_, _<_}
-use mathlib.Core.Path.{_≡_, refl}
+use Prim.Native.Nat.{ℕ, zero, suc, _+_, _*_, _-_, _/_, _%_, _≤_, _<_}
+use mathlib.Core.Path.{_≡_, refl, ap, _∙_}
 use mathlib.Core.List.{List}
-use mathlib.Core.Bool.{cond}
+use mathlib.Core.Bool.{Bool, true, false, cond}
 use native.Mathlib.Omega.{arith}
 use lib.ListN.{getD}
-use lib.Dec.{eqb}
+use lib.Dec.{eqb, ltb}
+use borrow.Author.Tests.{ltb-true, ltb-false}
 use Rattle.lists.specs.Tab.{tab}
 use Rattle.lists.proofs.Tab.{tab-ext}
 use Rattle.ula_scroll.specs.Scrolls.{pixelRead, dotRead}
@@ -48,12 +49,26 @@ pixel-fill p l pal plus bank bits cells i column a b bit1 bit0 read eb ec ea ef 
     rw (e, s .0, s .1, attribute-column (p .mode) (p .row) column, bitmap-column (p .mode) (p .row) column, ← eb, ← ec, ← ea, ← ef, eo, ez)
     (lit-bit l pal plus a b (k / 2)))
 
-pub hires-fill : (p : View) (bank : List ℕ) (c column b bit1 bit0 : ℕ) → DotsRead c (p .offset) column
-    → b ≡ getD bank (hiresAddress (p .row) column) 0
-    → tab (λ (k : ℕ). chosenDot b k bit1 bit0) 8 ≡ tab (λ (k : ℕ). hiresChosen p bit1 bit0 bank (c * 8 + k)) 8
+-- dot k of sixteen: of the first byte, or of the second
+pub hires-fill : (p : View) (bank : List ℕ) (i even odd x y bit1 bit0 : ℕ) → DotsRead (i * 2) (p .offset) even → DotsRead (i * 2 + 1) (p .offset) odd
+    → x ≡ getD bank (hiresAddress (p .row) even) 0 → y ≡ getD bank (hiresAddress (p .row) odd) 0
+    → tab (λ (k : ℕ). chosenDot (cond (ltb k 8) x y) k bit1 bit0) 16 ≡ tab (λ (k : ℕ). hiresChosen p bit1 bit0 bank (i * 16 + k)) 16
 unfolding hiresChosen chosenDot
-hires-fill p bank c column b bit1 bit0 read eb =
-    tab-ext _ _ 8 (λ k g. let s = in-column (dotRead (c * 8 + k) (p .offset)) column k g (read k g) in rw (s .0, s .1, ← eb))
+hires-fill p bank i even odd x y bit1 bit0 first second ex ey = tab-ext _ _ 16 (λ k g. go k g (ltb k 8) refl)
+  where
+    go : (k : ℕ) → k < 16 → (b : Bool) → ltb k 8 ≡ b → chosenDot (cond b x y) k bit1 bit0 ≡ hiresChosen p bit1 bit0 bank (i * 16 + k)
+    go k g true e =
+        let h : k < 8 = ltb-true k 8 e in
+        let n : i * 16 + k ≡ i * 2 * 8 + k = omega arith in
+        let s = in-column (dotRead (i * 16 + k) (p .offset)) even k h (ap (λ (d : ℕ). dotRead d (p .offset)) n ∙ first k h) in
+        rw (s .0, s .1, ← ex)
+    go k g false e =
+        let h : k - 8 < 8 = omega (arith, g) in
+        let w : 8 ≤ k = ltb-false k 8 e in
+        let n : i * 16 + k ≡ (i * 2 + 1) * 8 + (k - 8) = omega (arith, w) in
+        let s = in-column (dotRead (i * 16 + k) (p .offset)) odd (k - 8) h (ap (λ (d : ℕ). dotRead d (p .offset)) n ∙ second (k - 8) h) in
+        let m : (k - 8) % 8 ≡ k % 8 = omega (arith, w) in
+        rw (s .0, s .1, m, ← ey)
 
 -- a row of mode 6 from its two dots
 pub hires-dots : (p : View) (l : Colours) (pal plus bank : List ℕ) (bit1 bit0 : ℕ)

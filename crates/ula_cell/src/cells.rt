@@ -1,7 +1,9 @@
 // The cells of a row of the display, before the clip.
 ghost use mathlib.Core.Path.{_≡_};
+ghost use mathlib.Core.Bool.{cond};
 ghost use Prim.Native.Nat.{ℕ, _+_, _*_, _/_, _≤_, _<_};
 ghost use lib.ListN.{length};
+ghost use lib.Dec.{ltb};
 ghost use Rattle.lists.specs.Tab.{tab};
 ghost use Rattle.ula_address.specs.Addresses.{bitmapAddress, attributeAddress};
 ghost use Rattle.ula_scheme.specs.Bounds.{MaskBounds};
@@ -31,12 +33,20 @@ fn pixels(b: u8, bit1: u16, bit0: u16, out: &mut [u16])
     }
 }
 
-// Eight dots of mode 6.
-fn dots(b: u8, bit1: u16, bit0: u16, out: &mut [u16])
-    requires { ⌜ length (now out) ≡ 8 ⌝ }
-    ensures { λ r. ⌜ now (out .exit) ≡ tab (λ (k : ℕ). chosenDot b k bit1 bit0) 8 ⌝ }
+// The byte of dot k of sixteen.
+fn byte_of(k: usize, even: u8, odd: u8) -> u8
+    ensures { λ r. ⌜ r ≡ cond (ltb k 8) even odd ⌝ }
 {
-    for k in 0..8 {
+    if k < 8 { even } else { odd }
+}
+
+// Sixteen dots of mode 6, from two bytes: so many are chosen at once, where of eight the compiler chooses some one by one.
+fn dots(even: u8, odd: u8, bit1: u16, bit0: u16, out: &mut [u16])
+    requires { ⌜ length (now out) ≡ 16 ⌝ }
+    ensures { λ r. ⌜ now (out .exit) ≡ tab (λ (k : ℕ). chosenDot (cond (ltb k 8) even odd) k bit1 bit0) 16 ⌝ }
+{
+    for k in 0..16 {
+        let b = byte_of(k, even, odd);
         out[k] = choose_dot(b, k, bit1, bit0);
     }
 }
@@ -66,14 +76,15 @@ pub fn pixel_cell(
     pixels(b, d.bit1, d.bit0, out);
 }
 
-// Column c of 64 of mode 6, whose two dots are the same all along the row.
-pub fn hires_cell(p: View, bit1: u16, bit0: u16, bank: &[u8], c: usize, out: &mut [u16])
-    requires { ⌜ (ViewBounds p) × (length (now bank) ≡ 16384) × (c < 64) × (length (now out) ≡ 8) ⌝ }
-    ensures { λ r. ⌜ now (out .exit) ≡ tab (λ (k : ℕ). hiresChosen p bit1 bit0 (now (bank .entry)) (c * 8 + k)) 8 ⌝ }
+// Columns 2i and 2i + 1 of 64 of mode 6, whose two dots are the same all along the row.
+pub fn hires_cell(p: View, bit1: u16, bit0: u16, bank: &[u8], i: usize, out: &mut [u16])
+    requires { ⌜ (ViewBounds p) × (length (now bank) ≡ 16384) × (i < 32) × (length (now out) ≡ 16) ⌝ }
+    ensures { λ r. ⌜ now (out .exit) ≡ tab (λ (k : ℕ). hiresChosen p bit1 bit0 (now (bank .entry)) (i * 16 + k)) 16 ⌝ }
 {
-    let column = ula_scroll::hires_column(c, p.offset);
     let row = p.row;
-    let at = ula_byte::hires_address(row, column);
-    let b = bank[at];
-    dots(b, bit1, bit0, out);
+    let even = ula_scroll::hires_column(i * 2, p.offset);
+    let odd = ula_scroll::hires_column(i * 2 + 1, p.offset);
+    let at = ula_byte::hires_address(row, even);
+    let next = ula_byte::hires_address(row, odd);
+    dots(bank[at], bank[next], bit1, bit0, out);
 }

@@ -34,10 +34,10 @@ fn hires_row(p: View, bit1: u16, bit0: u16, bank: &[u8], out: &mut [u16])
     requires { ⌜ (ViewBounds p) × (length (now bank) ≡ 16384) × (length (now out) ≡ 512) ⌝ }
     ensures { λ r. ⌜ now (out .exit) ≡ tab (hiresChosen p bit1 bit0 (now (bank .entry))) 512 ⌝ }
 {
-    for c in 0..64 {
-        let a = c * 8;
-        let e = a + 8;
-        hires_cell(p, bit1, bit0, bank, c, &mut out[a..e]);
+    for i in 0..32 {
+        let a = i * 16;
+        let e = a + 16;
+        hires_cell(p, bit1, bit0, bank, i, &mut out[a..e]);
     }
 }
 
