@@ -25,6 +25,19 @@ fn state_meaning(r: Reply) {
     }
 }
 
+// What a trace, or an entry of one, is refused for.
+fn trace_meaning(r: Reply) {
+    match r {
+        Reply::BadTrace => say(b"the trace is not well formed"),
+        Reply::LinesFall => say(b"the lines of the trace fall"),
+        Reply::NoRegister => say(
+            b"there is no such register or port, or it cannot be used that way",
+        ),
+        Reply::OutOfBounds => say(b"the value is out of its bounds"),
+        _ => state_meaning(r),
+    }
+}
+
 // What a record is refused for.
 fn record_meaning(r: Reply) {
     match r {
@@ -35,7 +48,7 @@ fn record_meaning(r: Reply) {
             b"the record's version is not read here, or is not the one of its length",
         ),
         Reply::BadField => say(b"a field of the record is out of its bounds"),
-        _ => state_meaning(r),
+        _ => trace_meaning(r),
     }
 }
 
@@ -51,10 +64,31 @@ fn meaning(r: Reply) {
     }
 }
 
+fn say_number(n: u64) {
+    io::print_decimal(STDERR_FILENO, n);
+}
+
 pub fn refused(program: &[u8], r: Reply) {
     say(program);
     say(b": refused ");
-    io::print_decimal(STDERR_FILENO, number(r) as u64);
+    say_number(number(r) as u64);
+    say(b": ");
+    meaning(r);
+    say(b"\n");
+}
+
+// A line that is refused by its state, or by an entry of a trace, whose place follows the reply: 9 and 10 are of entries alone.
+pub fn line_refused(program: &[u8], line: usize, r: Reply, place: u16) {
+    let n = number(r);
+    say(program);
+    say(b": line ");
+    say_number(line as u64);
+    say(b": refused ");
+    say_number(n as u64);
+    if (n == 9) | (n == 10) {
+        say(b" at entry ");
+        say_number(place as u64);
+    }
     say(b": ");
     meaning(r);
     say(b"\n");

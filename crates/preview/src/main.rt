@@ -1,6 +1,7 @@
 // preview SCREEN: a screen file in the standard colours of a Spectrum; preview RECORD SCREEN: in a member's state; preview RECORD
-// ULA-BANK TILE-BANK: a member's state and banks; with no argument the example screen. The whole picture goes to standard output
-// as a binary PPM. Nothing is written there before every line is known to draw; what is wrong is said on standard error.
+// ULA-BANK TILE-BANK: a member's state and banks; preview RECORD ULA-BANK TILE-BANK TRACE: the same, with each line drawn by the writes
+// of a trace up to it; with no argument the example screen. The whole picture goes to standard output as a binary PPM. Nothing is
+// written there before every line is known to draw; what is wrong is said on standard error.
 
 mod banks;
 mod complaints;
@@ -18,12 +19,12 @@ fn draw_example() {
     output::show(example_screen::example_state(), &ula, &tiles);
 }
 
-// A record, and what the names after it are: a screen file, or two banks.
+// A record, and what the names after it are: a screen file, or two banks, or these and a trace.
 fn draw_named(record: &[u8], names: usize) {
     if names == 2 {
         screens::draw_with(record);
     } else {
-        banks::load_ula(record);
+        banks::load_ula(record, names);
     }
 }
 
@@ -41,6 +42,7 @@ fn main() {
         2 => screens::draw_standard(),
         3 => load_record(2),
         4 => load_record(3),
+        5 => load_record(4),
         _ => complaints::usage(),
     }
 }

@@ -3,23 +3,22 @@ ghost use mathlib.Core.Path.{_≡_};
 ghost use lib.ListN.{length};
 use crate::complaints;
 use libc::STDOUT_FILENO;
-use reply::Reply;
 use state::State;
 use surface::LineNumber;
 
-// The first refusal of a line, or done.
-fn draw_lines(s: State, ula: &[u8], tile: &[u8], dots: &mut [u16]) -> Reply
-    requires { ⌜ length (now dots) ≡ 163840 ⌝ }
-{
-    for y in 0..256 {
-        let a = y * 640;
-        let e = a + 640;
-        let r = line::draw(LineNumber(y), ula, tile, s, &mut dots[a..e]);
-        if reply::number(r) != 0 {
-            return r;
+// The trace without entries, by which each line is drawn as it is without one.
+pub const NO_ENTRIES: [u8; 3] = [0, 1, 1];
+
+// The first line whose reply is a refusal, 256 where there is none.
+fn first_refused(replies: &[u8]) -> usize {
+    let mut line = 0;
+    while line < replies.len() {
+        if replies[line] != 0 {
+            return line;
         }
+        line += 1;
     }
-    Reply::Done
+    line
 }
 
 // Each line twice, so that the picture has the right proportions.
@@ -41,12 +40,37 @@ fn write_picture(dots: &[u16])
     }
 }
 
-pub fn show(s: State, ula: &[u8], tile: &[u8]) {
-    let mut dots = [0u16; 163840];
-    let r = draw_lines(s, ula, tile, &mut dots);
-    if reply::number(r) == 0 {
-        write_picture(&dots);
-    } else {
+// A refused line asked for alone, since the numbers of a carried drawing are no replies. A state without entries refuses every line alike.
+fn tell_line(line: usize, s: State, ula: &[u8], tile: &[u8], trace: &[u8]) {
+    let mut dots = [0u16; 640];
+    let got = trace::draw_traced(LineNumber(line), ula, tile, s, trace, &mut dots);
+    let r = got.reply;
+    if trace.len() == 3 {
         complaints::refused(r);
+    } else {
+        complaints::line_refused(line, r, got.place);
     }
+}
+
+// The lines of a state by a trace.
+pub fn show_traced(s: State, ula: &[u8], tile: &[u8], trace: &[u8]) {
+    let mut dots = [0u16; 163840];
+    let mut replies = [0u8; 256];
+    let mut places = [0u16; 256];
+    let r = trace::draw_carried(ula, tile, s, trace, &mut dots, &mut replies, &mut places);
+    if reply::number(r) != 0 {
+        complaints::refused(r);
+        return;
+    }
+    let line = first_refused(&replies);
+    if line < 256 {
+        tell_line(line, s, ula, tile, trace);
+    } else {
+        write_picture(&dots);
+    }
+}
+
+// The lines of a state as it is.
+pub fn show(s: State, ula: &[u8], tile: &[u8]) {
+    show_traced(s, ula, tile, &NO_ENTRIES);
 }

@@ -18,11 +18,11 @@ enum-known-n c = search needs
 array-share-prefix-bank : tie.Need-array-share-prefix-bank
 array-share-prefix-bank c = let h = rw (c .before .n .given .1) at (c .before .before .before .before .load .ensures) in omega arith
 
-slice-aggregate-draw-record : tie.Need-slice-aggregate-draw-record
-slice-aggregate-draw-record c = let h = rw (c .before .before .n .given .1) at (c .before .before .before .before .before .load .ensures) in sym (length-take-le _ _ h)
+slice-aggregate-draw-banks : tie.Need-slice-aggregate-draw-banks
+slice-aggregate-draw-banks c = let h = rw (c .before .before .n .given .1) at (c .before .before .before .before .before .load .ensures) in sym (length-take-le _ _ h)
 
-draw-record-requires : tie.Need-draw-record-requires
-draw-record-requires c κs = search needs
+draw-banks-requires : tie.Need-draw-banks-requires
+draw-banks-requires c κs = search needs
 
 enum-told : tie.Need-enum-told
 enum-told c = search needs
@@ -41,8 +41,8 @@ load-tiles-spec =
     load-requires
     enum-known-n
     array-share-prefix-bank
-    slice-aggregate-draw-record
-    draw-record-requires
+    slice-aggregate-draw-banks
+    draw-banks-requires
     enum-told
     returns
     returns-2)
