@@ -1,14 +1,15 @@
-/* Narephon: ZX Spectrum Next lines, registers, records, desks, screen files and
- * tile packing.
+/* Narephon: ZX Spectrum Next lines, registers, records, traces, desks, screen files
+ * and tile packing.
  *
  * A member's whole video state is a record of NAREPHON_RECORD bytes that the
  * caller keeps and lends. Every call ends with an answer on every input and
  * returns a reply number (NAREPHON_DONE is 0). On a refusal `*value`, `*count`,
  * `*colours` and `*length` are set to 0, and the record, the desk and every other
  * buffer stay as they were. `*place` is set always: to the place in the record
- * that 16, 17 or 18 tells, counted from 0, and to 0 by every other reply. Later
- * versions may answer with numbers that are not in this header: a caller takes
- * any number but 0 for a refusal.
+ * that 16, 17 or 18 tells, counted from 0, and to 0 by every other reply;
+ * narephon_draw_traced sets it to that of a refused entry, and to 0 by every other
+ * reply. Later versions may answer with numbers that are not in this header: a
+ * caller takes any number but 0 for a refusal.
  *
  * Records are made in version 2. One of version 1, which libraries before 0.3.0
  * made, is an old record of NAREPHON_OLD_RECORD bytes: it lacks registers $26
@@ -29,8 +30,9 @@
  * `tile` may be the same pointer, and so may `layer2` and `sprites`. What is
  * lent for writing (the record or the desk of a call that changes it, the
  * `target` of a move, the bank that a screen file is read into, the file that one
- * is written into, `dots`, `map`, `definitions`, and `value`, `count`, `colours`,
- * `length` and `place` too) overlaps nothing else that the call is given.
+ * is written into, `dots`, `replies`, `places`, `map`, `definitions`, and `value`,
+ * `count`, `colours`, `length` and `place` too) overlaps nothing else that the call
+ * is given.
  *
  * The library keeps nothing between calls and has no data of its own that it
  * writes. Calls may run side by side in several threads as long as none writes
@@ -48,9 +50,9 @@ extern "C" {
 #endif
 
 /* The version of this header and of the library that it is delivered with. */
-#define NAREPHON_VERSION "0.6.0"
+#define NAREPHON_VERSION "0.7.0"
 #define NAREPHON_VERSION_MAJOR 0
-#define NAREPHON_VERSION_MINOR 6
+#define NAREPHON_VERSION_MINOR 7
 #define NAREPHON_VERSION_PATCH 0
 
 /* Lengths, in elements. */
@@ -58,6 +60,8 @@ extern "C" {
 #define NAREPHON_OLD_RECORD 2150
 #define NAREPHON_BANK 16384
 #define NAREPHON_DOTS 640
+#define NAREPHON_LINES 256
+#define NAREPHON_FRAME_DOTS 163840
 #define NAREPHON_PICTURE 40960
 #define NAREPHON_MAP 2560
 #define NAREPHON_DEFINITIONS 8192
@@ -98,7 +102,9 @@ enum narephon_reply {
     NAREPHON_BAD_DESK = 21,        /* the desk has the wrong length, a seat that is not of its form, or a number seated twice */
     NAREPHON_ALREADY_OPEN = 22,    /* the member already has a seat */
     NAREPHON_NOT_OPEN = 23,        /* the member has no seat */
-    NAREPHON_DESK_FULL = 24        /* all sixteen seats are held */
+    NAREPHON_DESK_FULL = 24,       /* all sixteen seats are held */
+    NAREPHON_BAD_TRACE = 25,       /* the trace is not well formed */
+    NAREPHON_LINES_FALL = 26       /* the lines of the trace fall */
 };
 
 /* Below, "replies" are the refusals of a call in the order in which they are
@@ -192,6 +198,49 @@ uint8_t narephon_draw_layers(const uint8_t *record, size_t record_len,
                              const uint16_t *layer2, size_t layer2_len,
                              const uint16_t *sprites, size_t sprites_len,
                              uint32_t line, uint16_t *dots, size_t dots_len);
+
+/* A trace is a recording of register and port writes, each stamped with the line
+ * that it comes at: the number of bytes following in two bytes, high first; the
+ * version, 1; and entries of four bytes: the line, the kind (0 a register, 1 a
+ * port), the number (of a port 0 to 3: $FE, $FF, $BF3B, $FF3B) and the byte. Bytes
+ * of another form are 25: fewer than three, a number that is not that of the bytes
+ * following, another version, a last entry cut short, a kind above 1, a port above
+ * 3. A line below that of the entry before it is 26. All of the trace is judged, by
+ * 25 and then by 26, before an entry is tried. A register that there is not is no
+ * fault of its form: it is 9 when it is tried. */
+
+/* Draws a line as narephon_draw does, by the state that the one in `record` becomes
+ * with every entry of `trace` stamped `line` or less, done in turn. An entry is what
+ * narephon_write_register or narephon_write_port does. One that is refused, by 9 or
+ * 10, refuses the drawing, and those after it are not tried; `*place` is then its
+ * place, counted from 0 among the entries, and 0 by every other reply. The record
+ * is only read.
+ * Replies: 1, 2, 3, 16, 17, 18, 25, 26, those of the entries (9, 10), 6, 7, 5, 8.
+ * A refusal leaves `dots` as it was. */
+uint8_t narephon_draw_traced(const uint8_t *record, size_t record_len,
+                             const uint8_t *trace, size_t trace_len,
+                             const uint8_t *ula, size_t ula_len,
+                             const uint8_t *tile, size_t tile_len,
+                             uint32_t line, uint16_t *dots, size_t dots_len,
+                             uint32_t *place);
+
+/* Draws lines 0 to 255 one after the other, with the state carried along, so that
+ * each entry of `trace` is done once. Line L has the NAREPHON_DOTS numbers of `dots`
+ * from L x NAREPHON_DOTS on, `replies[L]` and `places[L]`: what narephon_draw_traced
+ * draws, answers and sets for it. A refused line leaves its numbers as they were,
+ * and later lines are drawn; after a refused entry every later line answers its
+ * reply and its place. With the three bytes 0, 1, 1 as `trace`, which has no
+ * entries, each line is that of narephon_draw. The record is only read. `dots_len`
+ * is NAREPHON_FRAME_DOTS, `replies_len` and `places_len` are NAREPHON_LINES.
+ * Replies: 2, 3, 16, 17, 18, 25, 26; what refuses a line is in `replies` alone.
+ * A refusal leaves `dots`, `replies` and `places` as they were. */
+uint8_t narephon_draw_carried(const uint8_t *record, size_t record_len,
+                              const uint8_t *trace, size_t trace_len,
+                              const uint8_t *ula, size_t ula_len,
+                              const uint8_t *tile, size_t tile_len,
+                              uint16_t *dots, size_t dots_len,
+                              uint8_t *replies, size_t replies_len,
+                              uint16_t *places, size_t places_len);
 
 /* Reads a screen file (.scr) into `bank` and into the state in `record`;
  * `bank_len` is NAREPHON_BANK. The file's length tells its form: 6,912 bytes are

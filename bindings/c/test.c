@@ -1,4 +1,5 @@
-/* The header against the library: each call once, and a refusal of each; those on a desk are in test_desk.c. */
+/* The header against the library: each call once, and a refusal of each; those on a desk are in test_desk.c, those by a trace in
+ * test_trace.c. */
 #include "test.h"
 
 static uint8_t record[NAREPHON_RECORD], before[NAREPHON_RECORD], bank[NAREPHON_BANK];

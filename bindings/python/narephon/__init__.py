@@ -1,4 +1,4 @@
-"""Narephon from Python: lines, registers, records, desks, screen files and tile packing of ZX Spectrum Next screens.
+"""Narephon from Python: lines, registers, records, traces, desks, screen files and tile packing of ZX Spectrum Next screens.
 
 A member's whole video state is a record of ``RECORD`` bytes that the caller keeps. Every function takes bytes
 (``bytes``, ``bytearray`` or ``memoryview``) and gives ``bytes`` back; what it is given it never changes. A line is taken
@@ -8,6 +8,9 @@ sentence; where several refusals hold, it is the first in the order that a funct
 refused by reply 16, 17 or 18, and ``check_record``, ``load_record`` and the two moves tell the place as well. An
 argument of another type raises ``TypeError``, and a number that the library's parameter cannot hold ``ValueError``,
 before the library is called. A function keeps nothing between calls, so that functions may run side by side in threads.
+
+A trace is a recording of register and port writes, each stamped with the line that it comes at: ``make_trace`` makes the
+bytes of one, and ``draw_traced``, ``draw_carried`` and ``preview_png`` draw by it.
 
 A ``Desk`` keeps the states of up to ``SEATS`` members, by member number, in place of a record for each. Its methods have
 the names of the functions, take the member in place of the record, and change the desk itself, so that one desk is used
@@ -28,19 +31,23 @@ import ctypes
 from typing import Any, NamedTuple, Sequence
 
 from ._calls import (
-    DOTS, BytesLike, _answered, _banks, _byte, _dots, _lent, _lent_line, _narephon, _preview, _within, screen_value,
+    DOTS, BytesLike, _answered, _banks, _byte, _dots, _lent, _lent_line, _narephon, _within, screen_value,
 )
 from ._desk import DESK, SEATS, Desk
+from ._trace import (
+    FRAME_DOTS, LINES, NO_ENTRIES, Entry, PortEntry, RegisterEntry, draw_carried, draw_traced, make_trace, preview_png,
+)
 from .replies import Refused, Reply
 
 __all__ = [
-    "BANK", "DEFINITIONS", "DESK", "DOTS", "MAP", "OLD_RECORD", "PICTURE", "PRIORITY", "RECORD", "SCREEN", "SEATS",
-    "TRANSPARENT", "BytesLike", "Desk", "Packing", "Refused", "Reply", "Screen", "check_record", "draw", "draw_layers",
-    "fewest", "is_record", "load_record", "move_back", "move_up", "next_frame", "pack", "preview_png", "read_port",
+    "BANK", "DEFINITIONS", "DESK", "DOTS", "FRAME_DOTS", "LINES", "MAP", "NO_ENTRIES", "OLD_RECORD", "PICTURE", "PRIORITY",
+    "RECORD", "SCREEN", "SEATS", "TRANSPARENT", "BytesLike", "Desk", "Entry", "Packing", "PortEntry", "Refused",
+    "RegisterEntry", "Reply", "Screen", "check_record", "draw", "draw_carried", "draw_layers", "draw_traced", "fewest",
+    "is_record", "load_record", "make_trace", "move_back", "move_up", "next_frame", "pack", "preview_png", "read_port",
     "read_register", "read_scr", "reset", "screen_value", "write_port", "write_register", "write_scr",
 ]
 
-__version__ = "0.6.0"
+__version__ = "0.7.0"
 
 RECORD = 2152
 OLD_RECORD = 2150
@@ -229,15 +236,6 @@ def draw_layers(record: BytesLike, ula: BytesLike, tile: BytesLike, layer2: Sequ
     _within(32, line=line)
     lent = (*_screen(record, ula, tile), *_lent_line("layer2", layer2), *_lent_line("sprites", sprites))
     return _dots(_narephon.narephon_draw_layers, lent, line)
-
-
-def preview_png(record: BytesLike, ula: BytesLike, tile: BytesLike) -> bytes:
-    """A member's whole screen as a PNG file, 640 × 512: each of the 256 lines twice, in the colours' screen values.
-
-    ``ula`` and ``tile`` are the two banks of ``BANK`` bytes, which may be the same. Raises ``Refused`` as ``draw``
-    does, with reply 2, 16, 17, 18, 6, 7, 5 or 8, before anything is made; record and banks stay as they were.
-    """
-    return _preview(_narephon.narephon_draw, _screen(record, ula, tile))
 
 
 def read_scr(record: BytesLike, bank: BytesLike, file: BytesLike) -> Screen:

@@ -1,4 +1,4 @@
-"""What the functions and the desk share: the library, arguments checked and lent, replies raised, and lines drawn.
+"""What the functions, the traces and the desk share: the library, arguments checked and lent, replies raised, lines drawn.
 
 The package takes these names into its own, so those that are not for other programs open with an underscore here too.
 """
@@ -6,14 +6,13 @@ The package takes these names into its own, so those that are not for other prog
 from __future__ import annotations
 
 import ctypes
-from typing import Any, Callable, Sequence, Union
+from typing import Any, Callable, Container, Sequence, Union
 
-from . import _library, _png
+from . import _library
 from .replies import PLACED, Refused, Reply
 
 DOTS = 640
 
-_LINES = 256
 _COLOURS = 512
 
 BytesLike = Union[bytes, bytearray, memoryview]
@@ -50,12 +49,17 @@ def _within(bits: int, **numbers: int) -> None:
             raise ValueError(f"{name} is {number}, which {bits} unsigned bits cannot hold")
 
 
-def _answered(reply: int, place: ctypes.c_uint32 | None = None) -> None:
-    """Raises ``Refused`` for every reply but 0, with the place where the reply tells one: the call sets 0 also where
-    nothing is told."""
+def _refusal(reply: int, place: int | None, placed: Container[Reply]) -> Refused:
+    """The refusal of a reply, with the place that was set where the reply is one of those that tell it: the call sets 0
+    also where nothing is told."""
+    refused = Reply(reply)
+    return Refused(refused, place if refused in placed else None)
+
+
+def _answered(reply: int, place: ctypes.c_uint32 | None = None, placed: Container[Reply] = PLACED) -> None:
+    """Raises ``Refused`` for every reply but 0."""
     if reply:
-        refused = Reply(reply)
-        raise Refused(refused, place.value if place is not None and refused in PLACED else None)
+        raise _refusal(reply, None if place is None else place.value, placed)
 
 
 def _byte(call: Callable[..., int], *lent: Any) -> int:
@@ -89,9 +93,3 @@ def _rows(lines: Sequence[Sequence[int]]) -> list[bytes]:
     """Lines of dots as rows of a picture, in the colours' screen values."""
     pixels = [screen_value(colour).to_bytes(3, "big") for colour in range(_COLOURS)]
     return [b"".join([pixels[dot] for dot in dots]) for dots in lines]
-
-
-def _preview(call: Callable[..., int], lent: tuple[Any, ...]) -> bytes:
-    """The PNG file of the 256 lines that the call draws from what it is lent, each line twice, or ``Refused``."""
-    rows = _rows([_dots(call, lent, line) for line in range(_LINES)])
-    return _png.encoded(DOTS, [row for row in rows for _ in range(2)])

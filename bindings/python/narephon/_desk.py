@@ -4,10 +4,14 @@ from __future__ import annotations
 
 from typing import Any
 
-from ._calls import BytesLike, _answered, _banks, _byte, _dots, _lent, _narephon, _preview, _within
+from ._calls import BytesLike, _answered, _banks, _byte, _dots, _lent, _narephon, _within
+from ._trace import NO_ENTRIES, preview_png
 
 DESK = 34480
 SEATS = 16
+
+_SEAT = DESK // SEATS
+_HEAD = 3  # of a seat, before its record: whether it is held, and the number
 
 
 class Desk:
@@ -38,6 +42,13 @@ class Desk:
         """What a call on a member's seat is lent first: the desk itself, and the number."""
         _within(16, member=member)
         return (*self._lent, member)
+
+    def _record(self, member: int) -> bytes:
+        """The record in the member's seat, or ``Refused`` with reply 21 or 23, as the read of a register is."""
+        self.read_register(member, 0x14)
+        desk, held = bytes(self), b"\1" + member.to_bytes(2, "big")
+        seats = [desk[place:place + _SEAT] for place in range(0, DESK, _SEAT)]
+        return next(seat[_HEAD:] for seat in seats if seat[:_HEAD] == held)
 
     def start(self) -> None:
         """Frees all seats, whatever the desk holds; every state on it is given up.
@@ -104,10 +115,10 @@ class Desk:
         _within(32, line=line)
         return _dots(_narephon.narephon_desk_draw, (*self._seat(member), *_banks(ula, tile)), line)
 
-    def preview_png(self, member: int, ula: BytesLike, tile: BytesLike) -> bytes:
+    def preview_png(self, member: int, ula: BytesLike, tile: BytesLike, trace: BytesLike = NO_ENTRIES) -> bytes:
         """The member's whole screen as a PNG file, 640 × 512, as the function of that name makes it.
 
-        ``ula`` and ``tile`` are the two banks of ``BANK`` bytes, which may be the same. Raises ``Refused`` as ``draw``
-        does, with reply 21, 23, 2, 6, 7, 5 or 8, before anything is made; desk and banks stay as they were.
+        ``ula`` and ``tile`` are the two banks of ``BANK`` bytes, which may be the same. Raises ``Refused`` with reply 21
+        or 23, and then as that function does, before anything is made; desk and banks stay as they were.
         """
-        return _preview(_narephon.narephon_desk_draw, (*self._seat(member), *_banks(ula, tile)))
+        return preview_png(self._record(member), ula, tile, trace)

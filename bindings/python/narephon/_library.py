@@ -25,6 +25,8 @@ _SIGNATURES = {
     "narephon_read_port": [*_BYTES, ctypes.c_uint16, _BYTE],
     "narephon_draw": [*_BYTES, *_BYTES, *_BYTES, ctypes.c_uint32, *_NUMBERS],
     "narephon_draw_layers": [*_BYTES, *_BYTES, *_BYTES, *_NUMBERS, *_NUMBERS, ctypes.c_uint32, *_NUMBERS],
+    "narephon_draw_traced": [*_BYTES, *_BYTES, *_BYTES, *_BYTES, ctypes.c_uint32, *_NUMBERS, _WORD],
+    "narephon_draw_carried": [*_BYTES, *_BYTES, *_BYTES, *_BYTES, *_NUMBERS, *_BYTES, *_NUMBERS],
     "narephon_read_scr": [*_BYTES, *_BYTES, *_BYTES, _WORD],
     "narephon_write_scr": [*_BYTES, *_BYTES, *_BYTES, _WORD],
     "narephon_screen_value": [ctypes.c_uint32, _WORD],

@@ -45,6 +45,8 @@ class Reply(IntEnum):
     ALREADY_OPEN = 22, "the member already has a seat"
     NOT_OPEN = 23, "the member has no seat"
     DESK_FULL = 24, "all sixteen seats are held"
+    BAD_TRACE = 25, "the trace is not well formed"
+    LINES_FALL = 26, "the lines of the trace fall"
 
     @classmethod
     def _missing_(cls, value: object) -> Reply | None:
@@ -60,6 +62,8 @@ class Reply(IntEnum):
 
 # The replies that say where in a record something is wrong.
 PLACED = frozenset((Reply.WRONG_COUNT, Reply.WRONG_VERSION, Reply.BAD_FIELD))
+# Those to a drawing by a trace that come of an entry, and say which.
+OF_ENTRY = frozenset((Reply.NO_REGISTER, Reply.OUT_OF_BOUNDS))
 
 
 class Refused(Exception):
@@ -67,7 +71,8 @@ class Refused(Exception):
 
     ``place`` says where in the record, counted from 0, for replies 16, 17 and 18 of ``check_record``, ``load_record``
     and the two moves: 0, the stated number; 2, the version; or the place of the first field out of its bounds, which of
-    a colour is its high byte. It is None where nothing is told.
+    a colour is its high byte. For replies 9 and 10 of a drawing by a trace it is the place of the entry that was refused,
+    counted from 0. It is None where nothing is told.
     """
 
     def __init__(self, reply: Reply, place: int | None = None) -> None:

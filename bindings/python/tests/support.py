@@ -3,6 +3,7 @@
 from __future__ import annotations
 
 import os
+import re
 import shutil
 import struct
 import subprocess
@@ -38,6 +39,21 @@ def sample() -> tuple[bytes, bytes, bytes]:
     """The example screen: its record, which is an old one, its ULA bank and its tile bank."""
     folder = REPOSITORY / "bindings" / "rust" / "compare" / "sample"
     return (folder / "record").read_bytes(), (folder / "ula").read_bytes(), (folder / "tile").read_bytes()
+
+
+def sample_trace() -> bytes:
+    """The example screen's trace, of colour bars."""
+    return (REPOSITORY / "bindings" / "rust" / "compare" / "sample" / "trace").read_bytes()
+
+
+def guide() -> str:
+    return (REPOSITORY / "docs" / "GUIDE.md").read_text(encoding="utf-8")
+
+
+def guide_lines(word: str) -> str:
+    """The lines of Python in the guide that have a word in them."""
+    (lines,) = [block for block in re.findall(r"^```python\n(.*?)^```$", guide(), re.M | re.DOTALL) if word in block]
+    return lines
 
 
 def replaced(record: bytes, place: int, byte: int) -> bytes:

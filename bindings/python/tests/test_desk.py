@@ -2,13 +2,12 @@
 
 from __future__ import annotations
 
-import re
 import unittest
 from typing import Any, Callable
 
 import narephon
 from narephon import Desk, Refused, Reply
-from support import REPOSITORY, Case, replaced, sample, written
+from support import Case, guide_lines, replaced, sample, written
 
 SEAT = 2155
 FREE = bytes(SEAT)
@@ -401,10 +400,8 @@ class Shared(Case):
 
     def bot(self, *stored: bytes) -> dict[str, Any]:
         """What the lines define, with desks that were stored."""
-        guide = (REPOSITORY / "docs" / "GUIDE.md").read_text(encoding="utf-8")
-        (lines,) = re.findall(r"^```python\n(.*?)^```$", guide, re.M | re.DOTALL)
         names: dict[str, Any] = {}
-        exec(lines, names)
+        exec(guide_lines("desk_of"), names)
         names["desks"].extend([Desk(desk) for desk in stored])
         return names
 

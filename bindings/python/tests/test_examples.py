@@ -1,4 +1,5 @@
-"""The example programs, the guide's line that runs one, and the README's examples, run as a reader runs them."""
+"""The example programs, the guide's lines that run two of them, its Python for a trace, and the README's examples, run
+as a reader runs them."""
 
 from __future__ import annotations
 
@@ -6,9 +7,12 @@ import re
 import unittest
 
 import narephon
-from support import LIBRARY, PYTHON, REPOSITORY, InFolder, environment_of, outside, pixels, python, sample, written
+from support import (
+    LIBRARY, PYTHON, REPOSITORY, InFolder, environment_of, guide, guide_lines, outside, pixels, python, sample, sample_trace,
+    written,
+)
 
-# The line that makes the guide's picture: a program and the file that it writes.
+# A line of the guide that runs an example: the program and the file that it writes.
 LINE = r"^    PYTHONPATH=bindings/python python3 (\S+) (\S+)$"
 # The screen values of the colours that orders.py shows: the fallback, U's bars and frame, L's disc and band, S.
 FALLBACK, BARS, FRAME, DISC, BAND, SQUARE = 0xDADAFF, 0x006FFF, 0x0000B5, 0xFFDA00, 0xFF0025, 0x25B54A
@@ -64,11 +68,30 @@ class Examples(InFolder):
         self.example("bot.py", "other.png")
         self.assertEqual((self.folder / "other.png").read_bytes(), (self.folder / "preview.png").read_bytes())
 
+    def guides_line(self, name: str) -> tuple[list[str], str]:
+        """What the guide's line with an example prints, and the file that it writes."""
+        ((program, file),) = [line for line in re.findall(LINE, guide(), re.M) if line[0].endswith(f"/{name}")]
+        return self.printed(str(REPOSITORY / program), file), file
+
     def test_the_guides_picture(self) -> None:
-        ((program, file),) = re.findall(LINE, (REPOSITORY / "docs" / "GUIDE.md").read_text(encoding="utf-8"), re.M)
-        self.assertEqual(self.printed(str(REPOSITORY / program), file),
-                         [f"SLU LSU SUL above, LUS USL ULS below: {file}"])
+        said, file = self.guides_line("orders.py")
+        self.assertEqual(said, [f"SLU LSU SUL above, LUS USL ULS below: {file}"])
         self.assertEqual(self.picture(file), pixels((REPOSITORY / "docs" / "orders.png").read_bytes()))
+
+    def test_the_guides_bars(self) -> None:
+        said, file = self.guides_line("bars.py")
+        self.assertEqual(said, [f"241 entries: {file}"])
+        self.assertEqual((self.folder / file).read_bytes(), sample_trace())
+        shown = narephon.preview_png(*sample(), sample_trace())
+        self.assertEqual(pixels(shown), pixels((REPOSITORY / "docs" / "bars.png").read_bytes()))
+
+    def test_the_guides_trace(self) -> None:
+        """A bar of each colour in border 1; for that of $14, which is 1 in the sample, the fallback, which is 0."""
+        self.printed("-c", guide_lines("make_trace"))
+        trace = (self.folder / "bars.trace").read_bytes()
+        lines = narephon.draw_carried(sample()[0], trace, *sample()[1:])
+        self.assertEqual([line[0] for line in lines if isinstance(line, list)],
+                         [0 if colour == 1 else colour * 2 + (colour % 4 > 0) for colour in range(256)])
 
     def test_the_orders_differ(self) -> None:
         self.example("orders.py")

@@ -184,8 +184,9 @@ class Header(Case):
 
     def test_the_lengths_and_the_numbers_of_dots(self) -> None:
         stated = re.findall(r"^#define NAREPHON_((?!VERSION)\w+) (\d+)$", self.header, re.MULTILINE)
-        self.assertEqual([name for name, _ in stated], ["RECORD", "OLD_RECORD", "BANK", "DOTS", "PICTURE", "MAP",
-                                                       "DEFINITIONS", "SCREEN", "DESK", "SEATS", "TRANSPARENT", "PRIORITY"])
+        self.assertEqual([name for name, _ in stated], ["RECORD", "OLD_RECORD", "BANK", "DOTS", "LINES", "FRAME_DOTS",
+                                                       "PICTURE", "MAP", "DEFINITIONS", "SCREEN", "DESK", "SEATS",
+                                                       "TRANSPARENT", "PRIORITY"])
         for name, number in stated:
             self.assertEqual(getattr(narephon, name), int(number), name)
 

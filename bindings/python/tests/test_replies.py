@@ -43,8 +43,8 @@ class Replies(Case):
         self.assertEqual(reply, Reply(255))
 
     def test_how_many_there_are(self) -> None:
-        """0 to 24, but for 13: it is retired, and a number that the wrapper does not know."""
-        self.assertEqual([int(reply) for reply in Reply], [*range(13), *range(14, 25)])
+        """0 to 26, but for 13: it is retired, and a number that the wrapper does not know."""
+        self.assertEqual([int(reply) for reply in Reply], [*range(13), *range(14, 27)])
         self.assertEqual(Reply(13).sentence, UNKNOWN)
 
     def test_only_some_replies_tell_a_place(self) -> None:

@@ -20,6 +20,7 @@ use crate::states::{
     any_record_of, bank, damage, hold, lawful, lead, line, old_record_of, port, record_of,
     register, state_number, value, ALL_FAULTS, INK_MASKS, PALETTES, PORTS, SETTINGS,
 };
+use crate::trace_jobs;
 use model::reply::DONE;
 use model::{State, BANK_LENGTH, DOTS, OLD_RECORD_LENGTH, RECORD_LENGTH, SCREEN_LENGTH};
 
@@ -33,7 +34,7 @@ pub struct Job {
 
 /// Every job. Rounds of neighbouring seeds take register numbers, port numbers, bytes, lengths and settings in turn, so
 /// the rounds of a job are multiples of those where each is to be met.
-pub const JOBS: [Job; 28] = [
+pub const JOBS: [Job; 35] = [
     Job {
         name: "packings",
         rounds: 12 * pictures::KINDS,
@@ -173,6 +174,41 @@ pub const JOBS: [Job; 28] = [
         name: "desks as on a record",
         rounds: 1_000,
         run: desk_jobs::as_on_a_record,
+    },
+    Job {
+        name: "traced lines",
+        rounds: 16 * SETTINGS,
+        run: trace_jobs::lines,
+    },
+    Job {
+        name: "carried lines",
+        rounds: SETTINGS,
+        run: trace_jobs::frames,
+    },
+    Job {
+        name: "carried lines as alone",
+        rounds: SETTINGS,
+        run: trace_jobs::as_alone,
+    },
+    Job {
+        name: "longest traces",
+        rounds: 4,
+        run: trace_jobs::longest,
+    },
+    Job {
+        name: "damaged traces",
+        rounds: 100 * trace_jobs::DAMAGE_KINDS,
+        run: trace_jobs::damages,
+    },
+    Job {
+        name: "falling lines",
+        rounds: 200,
+        run: trace_jobs::falls,
+    },
+    Job {
+        name: "refused traces",
+        rounds: 16_000,
+        run: trace_jobs::refusals,
     },
 ];
 

@@ -18,8 +18,12 @@ pub mod screens;
 pub mod seen;
 pub mod seen_desks;
 mod seen_layers;
+pub mod seen_traces;
 pub mod states;
 pub mod timing;
+pub mod trace_calls;
+pub mod trace_jobs;
+pub mod traces;
 
 use std::io::Write;
 

@@ -1,13 +1,16 @@
 //! How often each reply, each kind of call, each place that is told, each kind of line, each order of layers and each case of a
-//! desk was reached.
+//! desk and of a trace was reached.
 
 use crate::calls::Told;
 use crate::desks::Damage;
 use crate::seen_desks::{Desks, Met};
 use crate::seen_layers::{refused_for, Dots};
+use crate::seen_traces::{self, Traces};
 use crate::states::{faults, INK_MASKS, PALETTES};
+use crate::trace_calls::Lengths;
+use crate::traces::Damage as TraceDamage;
 use model::layers::Stack;
-use model::reply::{BAD_FIELD, DONE, WRONG_COUNT, WRONG_VERSION};
+use model::reply::{BAD_FIELD, DONE, WRONG_BUFFER, WRONG_COUNT, WRONG_VERSION};
 use model::ula::{colouring, Colouring};
 use model::{read_old, ula_mode, LentLines, Mode, State, OLD_RECORD_LENGTH, RECORD_LENGTH};
 use std::collections::BTreeMap;
@@ -27,6 +30,8 @@ pub enum Call {
     ReadPort,
     Draw,
     DrawLayers,
+    DrawTraced,
+    DrawCarried,
     ReadScr,
     WriteScr,
     ScreenValue,
@@ -45,7 +50,7 @@ pub enum Call {
 
 /// The replies that each call can give. No call gives 4: an unlawful state can only come in a record, and such a record
 /// is 18, on a desk 21.
-pub const POSSIBLE: [(Call, &[u8]); 25] = [
+pub const POSSIBLE: [(Call, &[u8]); 27] = [
     (Call::Reset, &[0, 3]),
     (Call::CheckRecord, &[0, 16, 17, 18]),
     (Call::MoveUp, &[0, 3, 16, 17, 18]),
@@ -60,6 +65,11 @@ pub const POSSIBLE: [(Call, &[u8]); 25] = [
         Call::DrawLayers,
         &[0, 1, 2, 3, 5, 6, 7, 8, 16, 17, 18, 19, 20],
     ),
+    (
+        Call::DrawTraced,
+        &[0, 1, 2, 3, 5, 6, 7, 8, 9, 10, 16, 17, 18, 25, 26],
+    ),
+    (Call::DrawCarried, &[0, 2, 3, 16, 17, 18, 25, 26]),
     (Call::ReadScr, &[0, 2, 14, 16, 17, 18]),
     (Call::WriteScr, &[0, 2, 3, 14, 16, 17, 18]),
     (Call::ScreenValue, &[0, 10]),
@@ -76,9 +86,9 @@ pub const POSSIBLE: [(Call, &[u8]); 25] = [
     (Call::DeskDraw, &[0, 1, 2, 3, 5, 6, 7, 8, 21, 23]),
 ];
 
-/// The replies are 0 to 24, but for 13, which is retired.
+/// The replies are 0 to 26, but for 13, which is retired.
 fn replies() -> impl Iterator<Item = u8> {
-    (0..=24).filter(|&reply| reply != 13)
+    (0..=26).filter(|&reply| reply != 13)
 }
 
 /// The calls that tell a place, each with the length of a record whose fields it judges.
@@ -103,13 +113,16 @@ fn places(length: usize) -> Vec<usize> {
 /// Kinds of a call. Of a screen file: its form, by mode and colours, what a refusal by 14 was for, or what the state was
 /// besides. Of an old record: that it was taken, or refused for its version. Of a record of version 2: why it was not
 /// moved. Of bytes that are no record: what was wrong with their number or version. Of a line: that its mode was scrolled
-/// otherwise than the others. Of lent layers: that one line was both, or what a refusal was for.
-const KINDS: [(Call, &str); 68] = [
+/// otherwise than the others. Of lent layers: that one line was both, or what a refusal was for. Of all lines by a trace: which
+/// buffer alone was wrong.
+const KINDS: [(Call, &str); 73] = [
     (Call::CheckRecord, OLD),
     (Call::ReadRegister, OLD),
     (Call::ReadPort, OLD),
     (Call::Draw, OLD),
     (Call::DrawLayers, OLD),
+    (Call::DrawTraced, OLD),
+    (Call::DrawCarried, OLD),
     (Call::WriteScr, OLD),
     (Call::NextFrame, OLD_REFUSED),
     (Call::WriteRegister, OLD_REFUSED),
@@ -151,6 +164,9 @@ const KINDS: [(Call, &str); 68] = [
     (Call::DrawLayers, "20 for the sprites alone"),
     (Call::DrawLayers, "20 for a sprite's priority alone"),
     (Call::DrawLayers, "20 for what is hidden"),
+    (Call::DrawCarried, "3 for the dots alone"),
+    (Call::DrawCarried, "3 for the replies alone"),
+    (Call::DrawCarried, "3 for the places alone"),
     (Call::ReadScr, "mode 0"),
     (Call::ReadScr, "mode 0 with colours"),
     (Call::ReadScr, "mode 2"),
@@ -270,6 +286,7 @@ pub struct Seen {
     /// The dots of layered lines.
     dots: Dots,
     desks: Desks,
+    traces: Traces,
 }
 
 impl Seen {
@@ -408,6 +425,41 @@ impl Seen {
         self.desks.damaged(damage, seat);
     }
 
+    /// The reply of a drawing by a trace, which is the first of those that hold.
+    pub fn traced(
+        &mut self,
+        call: Call,
+        record: &[u8],
+        met: seen_traces::Met,
+        reply: u8,
+    ) -> Result<(), String> {
+        self.lent(call, record, reply);
+        self.traces.reply(call, met, reply)
+    }
+
+    /// A line that was drawn by a trace.
+    pub fn traced_line(&mut self, trace: &[u8], line: u32) {
+        self.traces.line(trace, line);
+    }
+
+    /// The replies of all lines, or a refusal of all by buffers of these lengths.
+    pub fn frame(&mut self, reply: u8, lengths: Lengths, lines: &[u8]) {
+        match reply {
+            DONE => self.traces.lines(lines),
+            WRONG_BUFFER => {
+                if let Some(what) = seen_traces::wrong_buffer(lengths) {
+                    self.kind(Call::DrawCarried, what);
+                }
+            }
+            _ => {}
+        }
+    }
+
+    /// A trace that both calls refused by 25, for one thing.
+    pub fn damaged_trace(&mut self, damage: TraceDamage) {
+        self.traces.damaged(damage);
+    }
+
     pub fn add(&mut self, other: &Seen) {
         for (&key, count) in &other.replies {
             *self.replies.entry(key).or_default() += count;
@@ -426,6 +478,7 @@ impl Seen {
         }
         self.dots.add(&other.dots);
         self.desks.add(&other.desks);
+        self.traces.add(&other.traces);
     }
 
     fn calls_of(&self, kind: (Call, &'static str)) -> u64 {
@@ -477,6 +530,7 @@ impl Seen {
         missing.extend(self.missing_lines());
         missing.extend(self.dots.missing());
         missing.extend(self.desks.missing());
+        missing.extend(self.traces.missing());
         missing
     }
 
@@ -527,7 +581,8 @@ impl Seen {
             let lines = self.lines_under(mask);
             let _ = writeln!(text, "ULANext, mask {mask}: {lines} lines");
         }
-        text + &self.line_report() + &self.dots.report() + &self.desks.report()
+        text += &self.line_report();
+        text + &self.dots.report() + &self.desks.report() + &self.traces.report()
     }
 
     fn place_report(&self) -> String {

@@ -90,14 +90,17 @@ fn every_call_against_the_model() {
     assert!(missing.is_empty(), "never reached: {}", missing.join("; "));
 }
 
-/// 129 replies, 68 kinds of call, 8 ink masks, 114 places that are told, 138 kinds of line and 30 of layered dot are asked
-/// for; and of desks 28 replies that come before others, 8 calls done in 16 seats, and 7 things wrong in 16 seats.
+/// 152 replies, 73 kinds of call, 8 ink masks, 114 places that are told, 138 kinds of line and 30 of layered dot are asked
+/// for; of desks 28 replies that come before others, 8 calls done in 16 seats, and 7 things wrong in 16 seats; and of traces
+/// 104 replies that come before others, 7 answers to a line among all, 29 registers and ports, 3 kinds of stamp, and 6 things
+/// wrong.
 #[test]
 fn what_is_not_reached_is_missed() {
     let desks = 28 + 8 * 16 + 7 * 16;
+    let traces = 104 + 7 + 29 + 3 + 6;
     assert_eq!(
         Seen::default().missing().len(),
-        129 + 68 + 8 + 114 + 138 + 30 + desks
+        152 + 73 + 8 + 114 + 138 + 30 + desks + traces
     );
 }
 

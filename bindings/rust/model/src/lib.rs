@@ -1,13 +1,13 @@
 //! A plain model of a ZX Spectrum Next line drawer: register file, one line
-//! of 640 dots, stored record, desk, screen files and tile packer.
+//! of 640 dots, trace, stored record, desk, screen files and tile packer.
 //!
 //! It is written from document 01, the scope paper, alone (with the tilemap
 //! page where that paper leaves bits to it) and not from the Rattle code; screen
 //! files are from their request and the page on ULAplus, the second scroll and
 //! the second version of a record from theirs, what is wrong with a record from
-//! its own, and lent layers and the desk from theirs. The comments cite the rules
-//! by the numbers that docs/RULES.md gives them. A request that comes later extends
-//! the model from its paper alone, before the code is looked at.
+//! its own, and lent layers, the desk and the trace from theirs. The comments cite
+//! the rules by the numbers that docs/RULES.md gives them. A request that comes
+//! later extends the model from its paper alone, before the code is looked at.
 //!
 //! Every rule is worked out for one dot, one cell or one register at a time;
 //! nothing here is written for speed.
@@ -25,6 +25,7 @@ pub mod scr;
 pub mod state;
 pub mod sums;
 pub mod tilemap;
+pub mod trace;
 pub mod ula;
 
 pub use colour::{plus_colour, screen_value, widen};

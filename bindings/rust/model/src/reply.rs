@@ -1,6 +1,6 @@
 //! The reply numbers of section 9: rule 9.N says when reply N comes.
 
-/// A reply is a plain number, 0 to 24 without 13, which is retired.
+/// A reply is a plain number, 0 to 26 without 13, which is retired.
 pub type Reply = u8;
 
 /// Rule 9.0: nothing is refused.
@@ -51,3 +51,7 @@ pub const ALREADY_OPEN: Reply = 22;
 pub const NOT_OPEN: Reply = 23;
 /// Rule 9.24: no seat is free.
 pub const DESK_FULL: Reply = 24;
+/// Rule 9.25: bytes that are no well-formed trace.
+pub const BAD_TRACE: Reply = 25;
+/// Rule 9.26: an entry whose line is below that of the entry before it.
+pub const LINES_FALL: Reply = 26;

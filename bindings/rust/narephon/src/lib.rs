@@ -1,4 +1,4 @@
-//! Narephon from Rust: lines, registers, records, desks, screen files and tile packing of ZX Spectrum Next screens.
+//! Narephon from Rust: lines, registers, records, traces, desks, screen files and tile packing of ZX Spectrum Next screens.
 //!
 //! A member's whole video state is a record of [`RECORD`] bytes that the caller keeps and lends. Every call answers on
 //! every input: `Ok`, or the [`Reply`] that refuses it and leaves every lent buffer as it was. Where several refusals
@@ -12,6 +12,9 @@
 //!
 //! Bytes that are no record are refused by 16, 17 or 18, in this order. [`check_record`], the moves and [`load_record`] tell
 //! the place too, in a [`Refusal`].
+//!
+//! [`draw_traced`] and [`draw_carried`] draw by a trace, a recording of register and port writes from line to line, which
+//! [`make_trace`] makes of its entries.
 //!
 //! A [`Desk`] keeps the records of up to [`SEATS`] members in one buffer, and its calls find one by the member's number.
 //!
@@ -33,10 +36,12 @@ mod desk;
 #[doc(hidden)]
 pub mod raw;
 mod reply;
+mod trace;
 
 pub use desk::Desk;
 use reply::{answered, judged};
 pub use reply::{Refusal, Reply};
+pub use trace::{draw_carried, draw_traced, make_trace, Entry};
 
 /// The version of this wrapper and of the library that it is delivered with.
 pub const VERSION: &str = env!("CARGO_PKG_VERSION");
@@ -49,6 +54,10 @@ pub const OLD_RECORD: usize = 2150;
 pub const BANK: usize = 16384;
 /// Dots of a line.
 pub const DOTS: usize = 640;
+/// Lines of a screen.
+pub const LINES: usize = 256;
+/// Dots of all of them.
+pub const FRAME_DOTS: usize = 163_840;
 /// Bytes of a picture: 256 rows of 160, two pixels a byte, the left one in the high half.
 pub const PICTURE: usize = 40960;
 /// Bytes of a map: 40 × 32 entries of two bytes, low first.

@@ -60,6 +60,36 @@ extern "C" {
         dots: *mut u16,
         dots_len: usize,
     ) -> u8;
+    pub fn narephon_draw_traced(
+        record: *const u8,
+        record_len: usize,
+        trace: *const u8,
+        trace_len: usize,
+        ula: *const u8,
+        ula_len: usize,
+        tile: *const u8,
+        tile_len: usize,
+        line: u32,
+        dots: *mut u16,
+        dots_len: usize,
+        place: *mut u32,
+    ) -> u8;
+    pub fn narephon_draw_carried(
+        record: *const u8,
+        record_len: usize,
+        trace: *const u8,
+        trace_len: usize,
+        ula: *const u8,
+        ula_len: usize,
+        tile: *const u8,
+        tile_len: usize,
+        dots: *mut u16,
+        dots_len: usize,
+        replies: *mut u8,
+        replies_len: usize,
+        places: *mut u16,
+        places_len: usize,
+    ) -> u8;
     pub fn narephon_read_scr(
         record: *mut u8,
         record_len: usize,

@@ -1,4 +1,4 @@
-//! The refusals by number, and where in a record.
+//! The refusals by number, and where in a record or a trace.
 
 use std::fmt;
 
@@ -56,12 +56,16 @@ pub enum Reply {
     NotOpen,
     /// 24: all sixteen seats are held.
     DeskFull,
+    /// 25: the trace is not well formed.
+    BadTrace,
+    /// 26: the lines of the trace fall.
+    LinesFall,
     /// Any other number: the library is of another version than this wrapper.
     Unknown(u8),
 }
 
 /// The replies with a number of their own.
-const KNOWN: [Reply; 23] = [
+const KNOWN: [Reply; 25] = [
     Reply::NoLine,
     Reply::BankLength,
     Reply::BufferLength,
@@ -85,6 +89,8 @@ const KNOWN: [Reply; 23] = [
     Reply::AlreadyOpen,
     Reply::NotOpen,
     Reply::DeskFull,
+    Reply::BadTrace,
+    Reply::LinesFall,
 ];
 
 impl Reply {
@@ -114,6 +120,8 @@ impl Reply {
             Reply::AlreadyOpen => 22,
             Reply::NotOpen => 23,
             Reply::DeskFull => 24,
+            Reply::BadTrace => 25,
+            Reply::LinesFall => 26,
             Reply::Unknown(number) => number,
         }
     }
@@ -156,6 +164,8 @@ impl Reply {
             Reply::AlreadyOpen => "the member already has a seat",
             Reply::NotOpen => "the member has no seat",
             Reply::DeskFull => "all sixteen seats are held",
+            Reply::BadTrace => "the trace is not well formed",
+            Reply::LinesFall => "the lines of the trace fall",
             Reply::Unknown(_) => {
                 "a reply that this wrapper does not know: the library is of another version"
             }
@@ -168,6 +178,11 @@ impl Reply {
             self,
             Reply::WrongCount | Reply::WrongVersion | Reply::BadField
         )
+    }
+
+    /// Does the reply, to a drawing by a trace, come of an entry?
+    fn tells_entry(self) -> bool {
+        matches!(self, Reply::NoRegister | Reply::OutOfBounds)
     }
 
     /// The reply of a number that is not 0.
@@ -185,7 +200,7 @@ impl fmt::Display for Reply {
 
 impl std::error::Error for Reply {}
 
-/// Why a record was refused, and where in it.
+/// Why a record or a drawing by a trace was refused, and where in the record or the trace.
 ///
 /// A caller that asks for no place has the [`Reply`] alone by `?` or `into`. Its `Display` has the place at its end, where
 /// there is one: `refused 18: a field of the record is out of its bounds (place 35)`.
@@ -194,9 +209,11 @@ impl std::error::Error for Reply {}
 pub struct Refusal {
     /// Why.
     pub reply: Reply,
-    /// Where, counted from the record's first byte, which is at 0: the stated number's place, 0, by
+    /// Where. In a record, counted from its first byte, which is at 0: the stated number's place, 0, by
     /// [`Reply::WrongCount`]; the version's, 2, by [`Reply::WrongVersion`]; that of the first field out of its bounds by
-    /// [`Reply::BadField`], of a colour the place of its high byte. By every other reply nothing is told.
+    /// [`Reply::BadField`], of a colour the place of its high byte. In a trace, counted from its first entry, which is at 0:
+    /// the refused entry's place, by [`Reply::NoRegister`] and [`Reply::OutOfBounds`]. A drawing by a trace tells no place in
+    /// the record. By every other reply nothing is told.
     pub place: Option<usize>,
 }
 
@@ -226,11 +243,20 @@ pub(crate) fn answered<T>(number: u8, value: T) -> Result<T, Reply> {
     }
 }
 
-/// The same of a call that sets a place, which is 0 also where it tells none.
+/// The same of a call that sets a place in a record, which is 0 also where it tells none.
 pub(crate) fn judged<T>(number: u8, place: u32, value: T) -> Result<T, Refusal> {
+    placed(number, place, value, Reply::tells_place)
+}
+
+/// The same of a call that sets the place of an entry.
+pub(crate) fn traced(number: u8, place: u32) -> Result<(), Refusal> {
+    placed(number, place, (), Reply::tells_entry)
+}
+
+fn placed<T>(number: u8, place: u32, value: T, tells: fn(Reply) -> bool) -> Result<T, Refusal> {
     answered(number, value).map_err(|reply| Refusal {
         reply,
-        place: reply.tells_place().then_some(place as usize),
+        place: tells(reply).then_some(place as usize),
     })
 }
 
@@ -245,21 +271,26 @@ mod tests {
         for number in 1..=255 {
             let reply = answered(number, 5).expect_err("a refusal");
             assert_eq!(reply.number(), number);
-            let known = number <= 24 && number != 13;
+            let known = number <= 26 && number != 13;
             assert_eq!(reply != Reply::Unknown(number), known);
         }
     }
 
-    /// A place of 0 is told by 16, and by a reply that tells none it is none.
+    /// A place of 0 is told by 16, and by a reply that tells none it is none. In a trace 9 and 10 tell one.
     #[test]
     fn places() {
         assert_eq!(judged(0, 0, 5), Ok(5));
+        assert_eq!(traced(0, 0), Ok(()));
         for number in 1..=255 {
             for place in [0, 2, 2_150] {
                 let refusal = judged(number, place, 5).expect_err("a refusal");
                 assert_eq!(Err(refusal.reply), answered(number, 5));
                 assert_eq!(Reply::from(refusal), refusal.reply);
                 let told = (16..=18).contains(&number).then_some(place as usize);
+                assert_eq!(refusal.place, told);
+                let refusal = traced(number, place).expect_err("a refusal");
+                assert_eq!(Err(refusal.reply), answered(number, ()));
+                let told = (9..=10).contains(&number).then_some(place as usize);
                 assert_eq!(refusal.place, told);
             }
         }

@@ -4,8 +4,9 @@ use compare::desks::record_bytes;
 use compare::layers::{layer2, sprites};
 use compare::pictures;
 use compare::random::Random;
-use compare::states::record_of;
+use compare::states::{record_of, PORTS};
 use compare::timing::{interleaved, print_costs, print_table, Figures, Row};
+use compare::traces::{trace_of, Entry};
 use model::{LentLines, State};
 use narephon::Desk;
 use std::hint::black_box;
@@ -13,6 +14,8 @@ use std::hint::black_box;
 const LINES: u32 = 256;
 const DRAWING: f64 = 1.5;
 const LAYERS: f64 = 1.3;
+const CARRIED: f64 = 1.1;
+const TRACED: f64 = 2.0;
 const PACKING: f64 = 1.5;
 const PACKING_PLAIN: f64 = 0.1;
 
@@ -22,7 +25,8 @@ ratios are Narephon to fast. Buffers are reused from run to run and not cleared.
 nothing is clipped. Narephon's calls are given a record each time. Lent layers are Narephon beside Narephon: a line drawn
 with them to the same line drawn without. They are noise, other in each line: a third of Layer 2 is transparent, a third
 colours, a third colours with priority; half of the sprites is transparent, half colours. Desks are Narephon beside
-Narephon too: a call by the member in the last held seat to the same call on a record.";
+Narephon too: a call by the member in the last held seat to the same call on a record. Carried previews are one call for
+all lines, beside fast reading the record once and doing the same entries between its lines.";
 
 /// What the tables measure.
 const BESIDE_FAST: [&str; 2] = ["Narephon", "fast"];
@@ -38,6 +42,7 @@ fn main() {
     records(&mut random);
     desks(&mut Random::new(3));
     packings(&mut random);
+    traces(&mut Random::new(4));
 }
 
 /// A state with palettes at random, which both a ULA offset and a tilemap offset move.
@@ -128,6 +133,28 @@ impl Picture {
         black_box(&self.0);
     }
 
+    /// All lines by one call.
+    fn carried(&mut self, record: &[u8], banks: &[Vec<u8>; 2], trace: &[u8]) {
+        let [ula, tile] = banks;
+        let lines = narephon::draw_carried(black_box(record), trace, ula, tile, &mut self.0);
+        assert!(lines.is_ok_and(|lines| lines.iter().all(Result::is_ok)));
+        black_box(&self.0);
+    }
+
+    /// Fast with the entries of each line done before it is drawn.
+    fn fast_traced(&mut self, record: &[u8], banks: &[Vec<u8>; 2], entries: &[Entry]) {
+        let (_, _, mut state) = fast::read_record(black_box(record));
+        let mut entries = entries.iter().peekable();
+        for (line, dots) in (0..LINES).zip(self.0.chunks_exact_mut(narephon::DOTS)) {
+            while let Some(entry) = entries.next_if(|entry| u32::from(entry[0]) <= line) {
+                assert_eq!(fast_write(&mut state, *entry), 0);
+            }
+            let reply = fast::draw(line, &banks[0], &banks[1], black_box(&state), dots);
+            assert_eq!(reply, 0);
+        }
+        black_box(&self.0);
+    }
+
     fn layered(&mut self, record: &[u8], banks: &[Vec<u8>; 2], lent: &Lent) {
         for (line, dots) in (0..LINES).zip(self.0.chunks_exact_mut(narephon::DOTS)) {
             let LentLines { layer2, sprites } = lent.line(line);
@@ -185,6 +212,110 @@ fn preview(what: &str, record: &[u8], banks: &[Vec<u8>; 2]) -> [Row; 2] {
         other: fast,
         target: Some(DRAWING),
     })
+}
+
+fn fast_write(state: &mut fast::State, [_, kind, number, byte]: Entry) -> u8 {
+    match kind {
+        0 => fast::write_register(state, number, byte),
+        _ => fast::write_port(state, PORTS[usize::from(number)], byte),
+    }
+}
+
+/// Whole previews by one call, without entries and with four for each line.
+fn traces(random: &mut Random) {
+    let base = base(random);
+    let banks = [random.bytes(16_384), random.bytes(16_384)];
+    let all = screens_and_tiles(&base);
+    let mut rows: Vec<Row> = all
+        .iter()
+        .map(|(what, state)| carried(what, &record_of(state), &banks, &[], CARRIED))
+        .collect();
+    // The palette has no transparent colour by itself, and a line without such dots needs no pass for the fallback.
+    let clear = (base.palettes[0][17] >> 1) as u8;
+    for (what, mut state) in screens(&base) {
+        if ["mode 0", "mode 2", "LoRes"].contains(&what) {
+            state.transparent = clear;
+            let what = format!("{what}, some dots transparent");
+            rows.push(carried(&what, &record_of(&state), &banks, &[], CARRIED));
+        }
+    }
+    print_table(
+        "A whole preview, carried, with a trace of no entries; fast reads the record once",
+        BESIDE_FAST,
+        &rows,
+    );
+    let bars = four_a_line(random, &BARS);
+    let some = [
+        "mode 0",
+        "mode 0, 40 columns",
+        "mode 0, 80 columns",
+        "mode 6",
+        "LoRes",
+        "mode 0, ULAplus",
+    ];
+    let mut rows: Vec<Row> = all
+        .iter()
+        .filter(|(what, _)| some.contains(&what.as_str()))
+        .map(|(what, state)| {
+            let what = format!("{what}; $40, $41, $FE, $26 in turn");
+            carried(&what, &record_of(state), &banks, &bars, TRACED)
+        })
+        .collect();
+    for (what, write) in ALONE {
+        let entries = four_a_line(random, &[write]);
+        let what = format!("mode 0; {what} alone");
+        rows.push(carried(&what, &record_of(&base), &banks, &entries, TRACED));
+    }
+    print_table(
+        "A whole preview, carried, with 1,024 entries, four of each line; fast does them between its lines",
+        BESIDE_FAST,
+        &rows,
+    );
+}
+
+/// A kind and a number of an entry: the index, a colour, the border and the scroll, as colour bars have them.
+const BARS: [[u8; 2]; 4] = [[0, 0x40], [0, 0x41], [1, 0], [0, 0x26]];
+
+/// Those that are measured by themselves.
+const ALONE: [(&str, [u8; 2]); 4] = [
+    ("$41", [0, 0x41]),
+    ("$44", [0, 0x44]),
+    ("port $FE", [1, 0]),
+    ("port $FF3B", [1, 3]),
+];
+
+/// Four entries of each line, which go through these writes in turn.
+fn four_a_line(random: &mut Random, writes: &[[u8; 2]]) -> Vec<Entry> {
+    let writes = writes.iter().cycle();
+    let entry = |(place, &[kind, number]): (usize, &[u8; 2])| {
+        // The second half of a colour is one bit.
+        let byte = match (number, place % 2) {
+            (0x44, 1) => random.below(2) as u8,
+            _ => random.byte(),
+        };
+        [(place / 4) as u8, kind, number, byte]
+    };
+    writes.enumerate().take(1_024).map(entry).collect()
+}
+
+fn carried(what: &str, record: &[u8], banks: &[Vec<u8>; 2], entries: &[Entry], target: f64) -> Row {
+    let trace = trace_of(entries);
+    let mut pictures = [Picture::new(), Picture::new()];
+    let [ours, other] = &mut pictures;
+    let times = interleaved(
+        150,
+        1,
+        &mut [&mut || ours.carried(record, banks, &trace), &mut || {
+            other.fast_traced(record, banks, entries)
+        }],
+    );
+    assert!(ours.0 == other.0, "{what} differs");
+    Row {
+        what: what.to_string(),
+        measured: times[0],
+        other: times[1],
+        target: Some(target),
+    }
 }
 
 /// Two lent lines for each of a picture's.

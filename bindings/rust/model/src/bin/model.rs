@@ -3,6 +3,7 @@
 use model::record::writes_back;
 use model::reply::{Reply, DONE, NO_SUCH_REGISTER};
 use model::sums::dots_sum;
+use model::trace::{draw_traced, Lent};
 use model::{
     draw, draw_layers, next_frame, pack, read_port, read_record, read_register, read_scr,
     screen_value, widen, write_port, write_register, LentLines, State, BANK_LENGTH, DOTS,
@@ -14,8 +15,8 @@ use std::process::ExitCode;
 
 const USAGE: &str = "usage: model script FILE
        model record FILE
-       model lines RECORD ULABANK TILEBANK [LAYER2 SPRITES]
-       model picture RECORD ULABANK TILEBANK [LAYER2 SPRITES]
+       model lines RECORD ULABANK TILEBANK [TRACE | LAYER2 SPRITES]
+       model picture RECORD ULABANK TILEBANK [TRACE | LAYER2 SPRITES]
        model screen [RECORD] SCREEN
        model pack FILE";
 
@@ -42,10 +43,16 @@ fn answer(words: &[&str]) -> Result<Vec<u8>, String> {
         ["script", file] => script(&load(file)?)?,
         ["record", file] => record(&load(file)?),
         ["lines", record, ula, tile] => lines(&screen(record, ula, tile)?),
+        ["lines", record, ula, tile, trace] => {
+            lines(&screen(record, ula, tile)?.with_trace(trace)?)
+        }
         ["lines", record, ula, tile, layer2, sprites] => {
             lines(&screen(record, ula, tile)?.with_layers(layer2, sprites)?)
         }
         ["picture", record, ula, tile] => return picture(&screen(record, ula, tile)?),
+        ["picture", record, ula, tile, trace] => {
+            return picture(&screen(record, ula, tile)?.with_trace(trace)?)
+        }
         ["picture", record, ula, tile, layer2, sprites] => {
             return picture(&screen(record, ula, tile)?.with_layers(layer2, sprites)?)
         }
@@ -132,16 +139,26 @@ struct Screen {
     state: State,
     ula: Vec<u8>,
     tile: Vec<u8>,
-    lent: Option<Layers>,
+    more: More,
+}
+
+/// What a line is drawn by besides.
+enum More {
+    Nothing,
+    Trace(Vec<u8>),
+    Layers(Layers),
 }
 
 impl Screen {
     fn draw(&self, line: u32) -> (Reply, [u16; DOTS]) {
         let mut dots = [0; DOTS];
         let (ula, tile, state) = (&self.ula, &self.tile, &self.state);
-        let reply = match &self.lent {
-            None => draw(line, ula, tile, state, &mut dots),
-            Some(layers) => draw_layers(line, ula, tile, layers.line(line), state, &mut dots),
+        let reply = match &self.more {
+            More::Nothing => draw(line, ula, tile, state, &mut dots),
+            More::Trace(trace) => draw_traced(line, Lent { trace, ula, tile }, state, &mut dots).0,
+            More::Layers(layers) => {
+                draw_layers(line, ula, tile, layers.line(line), state, &mut dots)
+            }
         };
         (reply, dots)
     }
@@ -149,8 +166,14 @@ impl Screen {
     /// The same screen with Layer 2 and sprites, from their files.
     fn with_layers(self, layer2: &str, sprites: &str) -> Result<Screen, String> {
         let (layer2, sprites) = (numbers(layer2)?, numbers(sprites)?);
-        let lent = Some(Layers { layer2, sprites });
-        Ok(Screen { lent, ..self })
+        let more = More::Layers(Layers { layer2, sprites });
+        Ok(Screen { more, ..self })
+    }
+
+    /// The same screen by the trace in a file.
+    fn with_trace(self, trace: &str) -> Result<Screen, String> {
+        let more = More::Trace(load(trace)?);
+        Ok(Screen { more, ..self })
     }
 }
 
@@ -187,7 +210,7 @@ fn screen(record: &str, ula: &str, tile: &str) -> Result<Screen, String> {
         state: known(record)?,
         ula: load(ula)?,
         tile: load(tile)?,
-        lent: None,
+        more: More::Nothing,
     })
 }
 
@@ -208,7 +231,7 @@ fn shown(file: &str, state: State) -> Result<Screen, String> {
             state,
             tile: ula.clone(),
             ula,
-            lent: None,
+            more: More::Nothing,
         }),
         (reply, _, _) => Err(format!("{file}: refused {reply}")),
     }
