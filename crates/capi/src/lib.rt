@@ -1,7 +1,7 @@
-// The calls for C, Rust and Python: numbers and slices only, a state lent as its record. Each answers the reply's number.
+// The calls for C, Rust and Python that change, move and read a record, and those on screen files: numbers and slices only, a state lent as its record. Each answers the
+// reply's number.
 mod changes;
 mod moves;
-mod pictures;
 mod readings;
 mod screens;
 
@@ -11,11 +11,6 @@ pub use changes::narephon_write_port;
 pub use changes::narephon_write_register;
 pub use moves::narephon_move_back;
 pub use moves::narephon_move_up;
-pub use pictures::narephon_draw;
-pub use pictures::narephon_draw_layers;
-pub use pictures::narephon_fewest;
-pub use pictures::narephon_pack;
-pub use pictures::narephon_screen_value;
 pub use readings::narephon_check_record;
 pub use readings::narephon_read_port;
 pub use readings::narephon_read_register;

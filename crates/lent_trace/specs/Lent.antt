@@ -6,7 +6,8 @@ use Rattle.surface.specs.declared.lines.LineNumber.{LineNumber}
 use Rattle.record_layout.specs.Record.{readRecord}
 use Rattle.trace.specs.declared.alone.Traced.{Traced}
 use Rattle.trace.specs.Lines.{tracedAnswer, tracedDots}
-use Rattle.trace.specs.Carried.{wholeReply, carriedDots, carriedReplies, carriedPlaces}
+use Rattle.trace_replies.specs.Replies.{wholeReply}
+use Rattle.trace.specs.Carried.{carriedDots, carriedReplies, carriedPlaces}
 
 -- one line of the state in the record: its reply and its place, and the lent line afterwards
 abbrev pub lentTraced : LineNumber → List ℕ → List ℕ → List ℕ → List ℕ → List ℕ → Traced

@@ -1,3 +1,3 @@
 pub mod Kept
-pub mod Asked
+pub mod Sound
 pub mod Filled

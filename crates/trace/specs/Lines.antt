@@ -1,16 +1,16 @@
 -- Rules 10.15 and 17.7: one line drawn by a trace. A state's own reply is 4; of a state in a lent record it is 16, 17 or 18.
 use Prim.Native.Nat.{ℕ}
-use mathlib.Core.List.{List, [], _∷_}
+use mathlib.Core.List.{List}
 use mathlib.Core.Bool.{cond}
 use lib.ListN.{length}
 use Rattle.reply.specs.Reply.{isDone}
-use Rattle.reply.specs.First.{firstOf, firstHit}
+use Rattle.reply.specs.First.{firstOf}
 use Rattle.reply.specs.declared.Reply.{Reply}
 use Rattle.state.specs.declared.State.{State}
 use Rattle.surface.specs.declared.lines.LineNumber.{LineNumber}
-use Rattle.line_replies.specs.Replies.{lineReply, lengthsReply, stateReply, drawnIf}
+use Rattle.line_replies.specs.Replies.{stateReply, drawnIf}
 use Rattle.line.specs.Lines.{drawnLine}
-use Rattle.trace_form.specs.Judged.{traceReply}
+use Rattle.trace_replies.specs.Replies.{askedReply}
 use Rattle.trace_runs.specs.Runs.{Run, after}
 use Rattle.trace.specs.declared.alone.Traced.{Traced}
 
@@ -25,10 +25,6 @@ runDots r ula tile line out = drawnIf (runReply r) (drawnLine (r .state) ula til
 -- its reply, and the place of the refused entry
 abbrev pub runTraced : Run → Traced
 runTraced r = record { reply = runReply r; place = r .place }
-
--- before entries are tried: 1; 2, 3; the state's own reply; 25, 26
-unfoldable pub askedReply : LineNumber → ℕ → ℕ → ℕ → Reply → List ℕ → Reply
-askedReply line ula tile out own t = firstHit (lineReply line ∷ lengthsReply ula tile out ∷ own ∷ traceReply t ∷ [])
 
 -- a refusal before entries are tried has place 0
 abbrev pub untried : Reply → Traced

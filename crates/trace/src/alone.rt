@@ -7,15 +7,12 @@ ghost use Rattle.state.specs.Lawful.{lawfulState, lawfulReply};
 ghost use Rattle.surface.specs.Lines.{isLine};
 ghost use Rattle.trace_runs.specs.Runs.{after};
 ghost use Rattle.trace_runs.specs.Bounds.{Sound};
-ghost use Rattle.trace.specs.Lines.{runTraced, runDots, askedReply, tracedAnswer, tracedDots};
+ghost use Rattle.trace.specs.Lines.{runTraced, runDots, tracedAnswer, tracedDots};
 use crate::lines::draw_run;
-use line_replies::lengths_reply;
-use line_replies::line_reply;
 use reply::Reply;
-use reply::first_of;
 use state::State;
 use surface::LineNumber;
-use trace_form::trace_reply;
+use trace_replies::asked_reply;
 use trace_runs::after_line;
 use trace_runs::begin;
 
@@ -23,24 +20,6 @@ use trace_runs::begin;
 pub struct Traced {
     pub reply: Reply,
     pub place: u16,
-}
-
-// What refuses a line before its entries are tried.
-fn asked_reply(
-    line: LineNumber,
-    ula: usize,
-    tile: usize,
-    out: usize,
-    own: Reply,
-    trace: &[u8],
-) -> Reply
-    ensures { λ r. ⌜ r ≡ askedReply line ula tile out own (now (trace .entry)) ⌝ }
-{
-    let last = first_of(own, trace_reply(trace));
-    first_of(
-        line_reply(line),
-        first_of(lengths_reply(ula, tile, out), last),
-    )
 }
 
 // A line where all that comes before its entries is judged.

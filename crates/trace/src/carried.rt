@@ -6,46 +6,16 @@ ghost use Rattle.reply.specs.declared.Reply.the-variants.{Done};
 ghost use Rattle.state.specs.Lawful.{lawfulState, lawfulReply};
 ghost use Rattle.line_replies.specs.Replies.{drawnIf};
 ghost use Rattle.trace_runs.specs.Bounds.{Sound};
-ghost use Rattle.trace.specs.Carried.{wholeLengths, wholeReply, carriedDots, carriedReplies, carriedPlaces};
+ghost use Rattle.trace_replies.specs.Replies.{wholeReply};
+ghost use Rattle.trace.specs.Carried.{carriedDots, carriedReplies, carriedPlaces};
 use crate::lines::draw_run;
 use reply::Reply;
-use reply::first_of;
 use state::State;
 use surface::LineNumber;
-use trace_form::trace_reply;
+use trace_replies::whole_reply;
 use trace_runs::begin;
 use trace_runs::is_due;
 use trace_runs::try_next;
-
-fn whole_lengths(ula: usize, tile: usize, dots: usize, replies: usize, places: usize) -> Reply
-    ensures { λ r. ⌜ r ≡ wholeLengths ula tile dots replies places ⌝ }
-{
-    if (ula == 16384) & (tile == 16384) {
-        if (dots == 163840) & (replies == 256) & (places == 256) {
-            Reply::Done
-        } else {
-            Reply::BufferLength
-        }
-    } else {
-        Reply::BankLength
-    }
-}
-
-// What refuses the whole call.
-fn whole_reply(
-    ula: usize,
-    tile: usize,
-    dots: usize,
-    replies: usize,
-    places: usize,
-    own: Reply,
-    trace: &[u8],
-) -> Reply
-    ensures { λ r. ⌜ r ≡ wholeReply ula tile dots replies places own (now (trace .entry)) ⌝ }
-{
-    let last = first_of(own, trace_reply(trace));
-    first_of(whole_lengths(ula, tile, dots, replies, places), last)
-}
 
 // Each turn tries the next entry or draws the next line, by the run carried on from the line before; so each entry is tried once.
 fn draw_lines(

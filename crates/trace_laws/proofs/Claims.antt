@@ -33,9 +33,11 @@ use Rattle.trace_form.specs.Judged.{rising, traceReply}
 use Rattle.trace_runs.specs.Runs.{Run, applied, begun, through, entriesBy, after}
 use Rattle.trace_runs.proofs.Through.{rises, same-due, due-below}
 use Rattle.trace.specs.declared.alone.Traced.{Traced}
-use Rattle.trace.specs.Lines.{runReply, runDots, runTraced, untried, askedReply, tracedAnswer, tracedDots}
-use Rattle.trace.specs.Carried.{wholeReply, lineOf, carriedLine, carriedReply, carriedPlace, carriedDots, carriedReplies, carriedPlaces}
-use Rattle.trace.proofs.Asked.{MetWhole, whole-met, sound}
+use Rattle.trace.specs.Lines.{runReply, runDots, runTraced, untried, tracedAnswer, tracedDots}
+use Rattle.trace_replies.specs.Replies.{askedReply}
+use Rattle.trace_replies.proofs.Asked.{MetWhole, whole-met}
+use Rattle.trace.specs.Carried.{lineOf, carriedLine, carriedReply, carriedPlace, carriedDots, carriedReplies, carriedPlaces}
+use Rattle.trace.proofs.Sound.{sound}
 use Rattle.trace_laws.specs.Cut.{cut}
 use Rattle.trace_laws.specs.Claims.{EntriesWrite, CarriedAlong, CarriedAlone, RefusedStays, PlaceOfRefused, NoEntries, CutTrace}
 use Rattle.trace_laws.proofs.Along.{one-more, refused-run, done-place}

@@ -23,7 +23,8 @@ use Rattle.trace_form.specs.Entries.{entryCount, lineAt}
 use Rattle.trace_form.specs.Judged.{rising, traceReply}
 use Rattle.trace_runs.specs.Runs.{portNumber, applied, begun, entriesBy, after}
 use Rattle.trace.specs.Lines.{runTraced, tracedAnswer, tracedDots}
-use Rattle.trace.specs.Carried.{wholeReply, lineOf, carriedDots, carriedReplies, carriedPlaces}
+use Rattle.trace_replies.specs.Replies.{wholeReply}
+use Rattle.trace.specs.Carried.{lineOf, carriedDots, carriedReplies, carriedPlaces}
 use Rattle.trace_laws.specs.Cut.{cut}
 
 -- an entry on a lawful state is the write that the call on a state makes

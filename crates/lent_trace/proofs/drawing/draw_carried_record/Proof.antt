@@ -5,7 +5,8 @@ use mathlib.Core.Path.{ap, _∙_}
 use native.Mathlib.Omega.{arith}
 use Rattle.line_replies.specs.Replies.{drawnIf}
 use Rattle.record_layout.specs.declared.RecordRead.{RecordRead}
-use Rattle.trace.specs.Carried.{wholeReply, carriedDots, carriedReplies, carriedPlaces}
+use Rattle.trace_replies.specs.Replies.{wholeReply}
+use Rattle.trace.specs.Carried.{carriedDots, carriedReplies, carriedPlaces}
 use Rattle.lent_trace.proofs.Lawful.{read-lawful}
 use borrow.Author.Needs.{needs}
 use Rattle.lent_trace.proofs.drawing.draw_carried_record.Statement.{statement}

@@ -6,7 +6,8 @@ use Rattle.reply.specs.Reply.{isDone}
 use Rattle.reply.proofs.Done.{number-done, done-is, not-done}
 use Rattle.line_replies.proofs.Exits.{drawn, left}
 use Rattle.trace.specs.Lines.{untried, tracedAnswer, tracedDots}
-use Rattle.trace.proofs.Asked.{sound, asked-met}
+use Rattle.trace_replies.proofs.Asked.{asked-met}
+use Rattle.trace.proofs.Sound.{sound}
 use borrow.Author.Needs.{needs}
 use Rattle.trace.proofs.alone.draw_traced_as.Statement.{statement}
 use Rattle.trace.proofs.alone.draw_traced_as.Tie as tie

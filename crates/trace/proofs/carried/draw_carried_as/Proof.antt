@@ -4,7 +4,8 @@ use native.Mathlib.Omega.{arith}
 use Rattle.reply.proofs.Done.{number-done, done-is, not-done}
 use mathlib.Core.Path.{refl}
 use Rattle.line_replies.proofs.Exits.{drawn, left}
-use Rattle.trace.proofs.Asked.{sound, whole-met}
+use Rattle.trace_replies.proofs.Asked.{whole-met}
+use Rattle.trace.proofs.Sound.{sound}
 use borrow.Author.Needs.{needs}
 use Rattle.trace.proofs.carried.draw_carried_as.Statement.{statement}
 use Rattle.trace.proofs.carried.draw_carried_as.Tie as tie

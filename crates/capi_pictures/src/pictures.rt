@@ -2,7 +2,7 @@
 ghost use mathlib.Core.Path.{_≡_};
 ghost use Rattle.reply.specs.Reply.{replyNumber};
 ghost use Rattle.colour.specs.Screen.{screenAnswer};
-ghost use Rattle.capi.specs.Packed.{LentPacked, LentFewest};
+ghost use Rattle.capi_pictures.specs.Packed.{LentPacked, LentFewest};
 ghost use lib.ListN.{length};
 ghost use Rattle.lent_drawing.specs.Drawn.{lentDrawReply, lentDrawn};
 ghost use Rattle.lent_layers.specs.Lent.{lentLayersReply, lentLayered};

@@ -6,8 +6,8 @@ use Rattle.pack_rule.proofs.Answers.{count-small}
 use native.Mathlib.Omega.{arith}
 use mathlib.Core.Path.{ap, _∙_}
 use borrow.Author.Needs.{needs}
-use Rattle.capi.proofs.pictures.narephon_pack.Statement.{statement}
-use Rattle.capi.proofs.pictures.narephon_pack.Tie as tie
+use Rattle.capi_pictures.proofs.pictures.narephon_pack.Statement.{statement}
+use Rattle.capi_pictures.proofs.pictures.narephon_pack.Tie as tie
 
 pack-requires : tie.Need-pack-requires
 pack-requires c κs = search needs

@@ -2,8 +2,8 @@
 use mathlib.Core.Path.{ap, _∙_}
 use Rattle.reply.specs.Reply.{replyNumber}
 use borrow.Author.Needs.{needs}
-use Rattle.capi.proofs.pictures.narephon_draw.Statement.{statement}
-use Rattle.capi.proofs.pictures.narephon_draw.Tie as tie
+use Rattle.capi_pictures.proofs.pictures.narephon_draw.Statement.{statement}
+use Rattle.capi_pictures.proofs.pictures.narephon_draw.Tie as tie
 
 draw-record-requires : tie.Need-draw-record-requires
 draw-record-requires c κs = search needs

@@ -1,42 +1,21 @@
 -- What a call that is not refused before its entries has met: of one line, and of the whole.
-use Prim.Native.Nat.{ℕ, _+_, _*_, _-_, _≤_}
-use mathlib.Core.Path.{_≡_, refl, sym, ap, _∙_}
+use Prim.Native.Nat.{ℕ}
+use mathlib.Core.Path.{_≡_, refl}
 use mathlib.Core.List.{List, [], _∷_}
-use mathlib.Core.Bool.{Bool, true, cond, _&&_}
-use native.Mathlib.Omega.{arith}
-use lib.ListN.{length, getD}
-use lib.Dec.{eqb, leb}
+use mathlib.Core.Bool.{true, cond, _&&_}
+use lib.Dec.{eqb}
 use borrow.Author.Tests.{eqb-true}
-use Rattle.lists.specs.Bytes.{Bytes}
 use Rattle.lists.proofs.Cond.{left-true, right-true}
 use Rattle.reply.specs.declared.Reply.{Reply}
-use Rattle.reply.specs.declared.Reply.the-variants.{Done, BankLength, BufferLength, BadTrace, LinesFall}
+use Rattle.reply.specs.declared.Reply.the-variants.{Done, BankLength, BufferLength}
 use Rattle.reply.proofs.Done.{test-met}
 use Rattle.reply.proofs.Order.{all-done}
 use Rattle.surface.specs.Lines.{isLine}
 use Rattle.surface.specs.declared.lines.LineNumber.{LineNumber}
 use Rattle.line_replies.specs.Replies.{lineReply, lengthsReply}
 use Rattle.line_replies.proofs.Exits.{line-met, lengths-met}
-use Rattle.trace_form.specs.Judged.{headed, allKnown, rising, traceReply}
-use Rattle.trace_form.proofs.Judged.{long-enough}
-use Rattle.trace_runs.specs.Bounds.{Sound}
-use Rattle.trace.specs.Lines.{askedReply}
-use Rattle.trace.specs.Carried.{wholeLengths, wholeReply}
-
--- a trace that is not refused
-pub sound : (t : List ℕ) → Bytes t → traceReply t ≡ Done → Sound t
-unfolding traceReply headed
-sound t b z =
-    let h = test-met (headed t && allKnown t) (cond (rising t) Done LinesFall) BadTrace refl z in
-    let w = left-true (headed t) (allKnown t) (h .0) in
-    let u = left-true _ (eqb (getD t 2 0) 1) (left-true _ _ w) in
-    let n = eqb-true (getD t 0 0 * 256 + getD t 1 0) (length t - 2) (right-true (leb 3 (length t)) _ u) in
-    record {
-      long = long-enough t w;
-      short = omega (arith, n, b 0, b 1);
-      rise = test-met (rising t) Done LinesFall refl (h .1) .0;
-      bytes = b;
-    }
+use Rattle.trace_form.specs.Judged.{traceReply}
+use Rattle.trace_replies.specs.Replies.{askedReply, wholeLengths, wholeReply}
 
 pub record Met (l : LineNumber) (u v o : ℕ) (q : Reply) (t : List ℕ) : Type 0 where
   pub line : isLine l ≡ true

@@ -6,8 +6,8 @@ use Rattle.pack_rule.proofs.Answers.{count-small}
 use native.Mathlib.Omega.{arith}
 use mathlib.Core.Path.{ap, _∙_}
 use borrow.Author.Needs.{needs}
-use Rattle.capi.proofs.pictures.narephon_fewest.Statement.{statement}
-use Rattle.capi.proofs.pictures.narephon_fewest.Tie as tie
+use Rattle.capi_pictures.proofs.pictures.narephon_fewest.Statement.{statement}
+use Rattle.capi_pictures.proofs.pictures.narephon_fewest.Tie as tie
 
 fewest-requires : tie.Need-fewest-requires
 fewest-requires c κs = search needs

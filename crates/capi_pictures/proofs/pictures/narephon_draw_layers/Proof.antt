@@ -2,8 +2,8 @@
 use mathlib.Core.Path.{ap, _∙_}
 use Rattle.reply.specs.Reply.{replyNumber}
 use borrow.Author.Needs.{needs}
-use Rattle.capi.proofs.pictures.narephon_draw_layers.Statement.{statement}
-use Rattle.capi.proofs.pictures.narephon_draw_layers.Tie as tie
+use Rattle.capi_pictures.proofs.pictures.narephon_draw_layers.Statement.{statement}
+use Rattle.capi_pictures.proofs.pictures.narephon_draw_layers.Tie as tie
 
 draw-layers-record-requires : tie.Need-draw-layers-record-requires
 draw-layers-record-requires c κs = search needs

@@ -1,9 +1,9 @@
 -- The tests of the definition.
 use mathlib.Core.Path.{sym, _∙_}
 use Rattle.lists.proofs.Cond.{if-true, if-false}
-use Rattle.trace.specs.Carried.{wholeLengths}
-use Rattle.trace.proofs.carried.whole_lengths.Statement.{statement}
-use Rattle.trace.proofs.carried.whole_lengths.Tie as tie
+use Rattle.trace_replies.specs.Replies.{wholeLengths}
+use Rattle.trace_replies.proofs.whole_lengths.Statement.{statement}
+use Rattle.trace_replies.proofs.whole_lengths.Tie as tie
 
 returns : tie.Need-returns
 unfolding wholeLengths

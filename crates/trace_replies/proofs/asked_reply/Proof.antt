@@ -1,10 +1,10 @@
 -- The pieces in their order.
 use Rattle.reply.proofs.Order.{last-hit, next-hit}
 use mathlib.Core.Path.{refl}
-use Rattle.trace.specs.Lines.{askedReply}
+use Rattle.trace_replies.specs.Replies.{askedReply}
 use borrow.Author.Needs.{needs}
-use Rattle.trace.proofs.alone.asked_reply.Statement.{statement}
-use Rattle.trace.proofs.alone.asked_reply.Tie as tie
+use Rattle.trace_replies.proofs.asked_reply.Statement.{statement}
+use Rattle.trace_replies.proofs.asked_reply.Tie as tie
 
 trace-reply-requires : tie.Need-trace-reply-requires
 trace-reply-requires c κs = search needs

@@ -3,8 +3,8 @@ use Rattle.reply.specs.Reply.{replyNumber}
 use Rattle.colour.specs.declared.screen.Screen.{Screen}
 use mathlib.Core.Path.{ap, _∙_}
 use borrow.Author.Needs.{needs}
-use Rattle.capi.proofs.pictures.narephon_screen_value.Statement.{statement}
-use Rattle.capi.proofs.pictures.narephon_screen_value.Tie as tie
+use Rattle.capi_pictures.proofs.pictures.narephon_screen_value.Statement.{statement}
+use Rattle.capi_pictures.proofs.pictures.narephon_screen_value.Tie as tie
 
 screen-value-requires : tie.Need-screen-value-requires
 screen-value-requires c κs = search needs
