@@ -2,12 +2,10 @@
 use Prim.Native.Nat.{ℕ, _+_, _*_, _≤_, _<_}
 use mathlib.Core.Path.{_≡_, refl, sym, ap, _∙_}
 use mathlib.Core.List.{List, _++_}
-use mathlib.Core.Bool.{true}
 use native.Mathlib.Omega.{arith}
 use lib.ListN.{length, take, drop, set, length-set}
 use Rattle.lists.specs.Tab.{tab}
 use Rattle.lists.specs.Rows.{rows}
-use Rattle.lists.specs.Placed.{placed}
 use Rattle.lists.proofs.Cond.{either}
 use Rattle.lists.proofs.Cuts.{cut-length}
 use Rattle.lists.proofs.Placed.{length-placed, placed-lent}

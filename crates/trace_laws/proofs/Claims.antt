@@ -5,11 +5,10 @@ use mathlib.Core.List.{List, [], _∷_, _++_}
 use mathlib.Core.Bool.{Bool, true, false, cond}
 use native.Mathlib.Nat.{add-zero, add-suc, le-refl}
 use native.Mathlib.Omega.{arith}
-use lib.ListN.{length, take, drop}
+use lib.ListN.{length}
 use lib.Dec.{leb, eqb}
 use borrow.Author.Tests.{le-leb, lt-leb, eq-eqb, ne-eqb}
 use Rattle.lists.specs.Bytes.{Bytes}
-use Rattle.lists.specs.Tab.{tab}
 use Rattle.lists.specs.Rows.{rows}
 use Rattle.lists.proofs.Cond.{if-true, if-false}
 use Rattle.lists.proofs.Cuts.{cut-length}
@@ -28,7 +27,7 @@ use Rattle.register_laws.proofs.Calls.{write-row, port-row}
 use Rattle.line_replies.specs.Replies.{lineReply, lengthsReply, stateReply, drawReply, drawnIf}
 use Rattle.line_replies.proofs.Exits.{drawn, left}
 use Rattle.line.specs.Lines.{drawnLine}
-use Rattle.trace_form.specs.Entries.{entryCount, entryAt, lineAt}
+use Rattle.trace_form.specs.Entries.{entryCount, lineAt}
 use Rattle.trace_form.specs.Judged.{rising, traceReply}
 use Rattle.trace_runs.specs.Runs.{Run, applied, begun, through, entriesBy, after}
 use Rattle.trace_runs.proofs.Through.{rises, same-due, due-below}
@@ -36,7 +35,7 @@ use Rattle.trace.specs.declared.alone.Traced.{Traced}
 use Rattle.trace.specs.Lines.{runReply, runDots, runTraced, untried, tracedAnswer, tracedDots}
 use Rattle.trace_replies.specs.Replies.{askedReply}
 use Rattle.trace_replies.proofs.Asked.{MetWhole, whole-met}
-use Rattle.trace.specs.Carried.{lineOf, carriedLine, carriedReply, carriedPlace, carriedDots, carriedReplies, carriedPlaces}
+use Rattle.trace.specs.Carried.{lineOf, carriedLine, carriedDots, carriedReplies, carriedPlaces}
 use Rattle.trace.proofs.Sound.{sound}
 use Rattle.trace_laws.specs.Cut.{cut}
 use Rattle.trace_laws.specs.Claims.{EntriesWrite, CarriedAlong, CarriedAlone, RefusedStays, PlaceOfRefused, NoEntries, CutTrace}

@@ -1,15 +1,13 @@
 -- A cut trace is not refused where the whole is not, and has its first entries.
-use Prim.Native.Nat.{ℕ, zero, suc, _+_, _*_, _-_, _/_, _%_, _≤_, _<_}
-use mathlib.Core.Path.{_≡_, refl, sym, ap, _∙_}
+use Prim.Native.Nat.{ℕ, zero, suc, _+_, _*_, _-_, _%_, _≤_, _<_}
+use mathlib.Core.Path.{_≡_, refl, ap, _∙_}
 use mathlib.Core.List.{List}
-use mathlib.Core.Bool.{Bool, true, cond, _&&_}
+use mathlib.Core.Bool.{true, cond, _&&_}
 use native.Mathlib.Omega.{arith}
 use lib.ListN.{length, take, drop, getD, length-drop}
 use lib.Seq.{length-take-le, getD-take, getD-drop}
 use lib.Dec.{leb, eqb}
 use borrow.Author.Tests.{le-leb, eq-eqb}
-use Rattle.lists.specs.Bytes.{Bytes}
-use Rattle.lists.specs.Search.{all}
 use Rattle.lists.proofs.Cond.{if-true, left-true, right-true, both}
 use Rattle.lists.proofs.Search.{all-at, all-of}
 use Rattle.reply.specs.declared.Reply.the-variants.{Done, BadTrace, LinesFall}

@@ -1,5 +1,4 @@
 -- The state that is read is lawful, and its own reply is the record's.
-use Prim.Native.Nat.{ℕ}
 use lib.ListN.{length}
 use mathlib.Core.Path.{ap, _∙_}
 use native.Mathlib.Omega.{arith}

@@ -1,7 +1,6 @@
 -- The refused entry or the state refuses; a line that nothing refuses is drawn.
-use mathlib.Core.Path.{sym, ap, _∙_}
+use mathlib.Core.Path.{ap, _∙_}
 use Rattle.reply.specs.First.{firstOf}
-use Rattle.reply.specs.declared.Reply.{Reply}
 use Rattle.reply.proofs.Done.{done-is, not-done}
 use Rattle.line_replies.proofs.Exits.{drawn, left}
 use Rattle.trace.specs.Lines.{runReply, runDots}

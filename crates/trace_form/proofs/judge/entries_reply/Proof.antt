@@ -1,15 +1,11 @@
 -- The entries below i are judged, and the last line is remembered.
-use mathlib.Core.Path.{_≡_, refl, sym, ap, _∙_}
+use mathlib.Core.Path.{_≡_, refl, sym, _∙_}
 use Rattle.lists.proofs.Cond.{if-true, if-false}
 use native.Mathlib.Omega.{arith}
 use borrow.Author.Needs.{needs}
-use Prim.Native.Nat.{ℕ, _≤_, _-_}
-use mathlib.Core.List.{List}
-use lib.Dec.{leb}
+use Prim.Native.Nat.{_≤_, _-_}
 use Rattle.lists.specs.Search.{all}
-use Rattle.trace_form.specs.declared.entries.Entry.{Entry}
-use Rattle.trace_form.specs.Entries.{entryCount, entryAt, lineAt}
-use Rattle.trace_form.specs.Judged.{headed, known, allKnown, lineBefore, rising}
+use Rattle.trace_form.specs.Judged.{lineBefore}
 use Rattle.trace_form.proofs.Judged.{knownBelow, risingBelow, known-more, rising-more, before-more, all-judged, long-enough}
 use Rattle.trace_form.proofs.judge.entries_reply.Statement.{statement}
 use Rattle.trace_form.proofs.judge.entries_reply.Tie as tie

@@ -1,7 +1,5 @@
 -- A trace too short for its head, or three tests after the length's.
 use borrow.Author.Tests.{le-leb, lt-leb}
-use Rattle.lists.proofs.Cond.{if-true, if-false}
-use mathlib.Core.Path.{_≡_, refl, sym, ap, _∙_}
 use Rattle.trace_form.specs.Judged.{headed}
 use borrow.Author.Needs.{needs}
 use Rattle.trace_form.proofs.judge.is_headed.Statement.{statement}

@@ -1,5 +1,5 @@
 -- A broken head is 25; else the entries' reply.
-use mathlib.Core.Path.{_≡_, sym, _∙_}
+use mathlib.Core.Path.{sym, _∙_}
 use Rattle.trace_form.proofs.Judged.{head-whole, head-broken}
 use borrow.Author.Needs.{needs}
 use Rattle.trace_form.proofs.judge.trace_reply.Statement.{statement}

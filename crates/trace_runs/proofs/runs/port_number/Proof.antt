@@ -1,6 +1,5 @@
 -- One match on the number.
-use borrow.Author.Tests.{eq-eqb, ne-eqb}
-use mathlib.Core.Path.{_≡_, refl, sym, ap, _∙_}
+use borrow.Author.Tests.{ne-eqb}
 use Rattle.trace_runs.proofs.runs.port_number.Statement.{statement}
 use Rattle.trace_runs.proofs.runs.port_number.Tie as tie
 

@@ -1,7 +1,7 @@
 -- One test on the reply's number.
 use borrow.Author.Tests.{eq-eqb, ne-eqb}
 use Rattle.lists.proofs.Cond.{if-true, if-false}
-use mathlib.Core.Path.{_≡_, refl, sym, ap, _∙_}
+use mathlib.Core.Path.{sym, _∙_}
 use borrow.Author.Needs.{needs}
 use Rattle.trace_runs.proofs.runs.told_place.Statement.{statement}
 use Rattle.trace_runs.proofs.runs.told_place.Tie as tie
