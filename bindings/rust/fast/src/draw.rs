@@ -17,43 +17,87 @@ type Line = [u16; DOTS];
 
 /// Rules 1.2 and 1.3: draws one line, or refuses and leaves it.
 pub fn draw(line: u32, ula: &[u8], tile: &[u8], state: &State, out: &mut [u16]) -> u8 {
-    if line > 255 {
-        return 1;
+    match Lent::new(line, ula, tile, out) {
+        Ok(_) if !lawful(state) => 4,
+        Ok(lent) => lent.draw(state),
+        Err(reply) => reply,
     }
-    let (Ok(ula), Ok(tile)) = (<&Bank>::try_from(ula), <&Bank>::try_from(tile)) else {
-        return 2;
-    };
-    let Ok(out) = <&mut Line>::try_from(out) else {
-        return 3;
-    };
-    let reply = refusal(state);
-    if reply != 0 {
-        return reply;
-    }
-    let line = line as usize;
-    let fallback = widen(state.fallback);
-    if state.ula_control & 0x80 != 0 {
-        out.fill(CLEAR);
-    } else {
-        ula_line(line, ula, state, out);
-    }
-    if state.tile_control & 0x80 == 0 {
-        for dot in out {
-            *dot = if *dot & CLEAR == 0 { *dot } else { fallback };
-        }
-        return 0;
-    }
-    let mut tiles = [CLEAR; DOTS];
-    tile_line(line, tile, state, &mut tiles);
-    if state.ula_control & 0x81 == 1 {
-        stencil(out, &tiles, fallback);
-    } else {
-        compose(out, &tiles, fallback);
-    }
-    0
 }
 
-/// Rule 10.1: the refusals by the state, 4, 6, 7, 5, 8.
+/// Draws one line of a state that the caller knows is lawful, so that many
+/// lines need one judging.
+pub fn draw_lawful(line: u32, ula: &[u8], tile: &[u8], state: &State, out: &mut [u16]) -> u8 {
+    match Lent::new(line, ula, tile, out) {
+        Ok(lent) => lent.draw(state),
+        Err(reply) => reply,
+    }
+}
+
+/// What a line is drawn from and into besides its state, of the right lengths.
+struct Lent<'a> {
+    line: usize,
+    ula: &'a Bank,
+    tile: &'a Bank,
+    out: &'a mut Line,
+}
+
+impl<'a> Lent<'a> {
+    /// Rule 10.1: the refusals that go before those by the state, 1, 2, 3.
+    fn new(line: u32, ula: &'a [u8], tile: &'a [u8], out: &'a mut [u16]) -> Result<Lent<'a>, u8> {
+        if line > 255 {
+            return Err(1);
+        }
+        let (Ok(ula), Ok(tile)) = (ula.try_into(), tile.try_into()) else {
+            return Err(2);
+        };
+        let Ok(out) = out.try_into() else {
+            return Err(3);
+        };
+        let line = line as usize;
+        Ok(Lent {
+            line,
+            ula,
+            tile,
+            out,
+        })
+    }
+
+    /// Draws by a lawful state, or refuses it.
+    fn draw(self, state: &State) -> u8 {
+        let reply = refusal(state);
+        if reply != 0 {
+            return reply;
+        }
+        let Lent {
+            line,
+            ula,
+            tile,
+            out,
+        } = self;
+        let fallback = widen(state.fallback);
+        if state.ula_control & 0x80 != 0 {
+            out.fill(CLEAR);
+        } else {
+            ula_line(line, ula, state, out);
+        }
+        if state.tile_control & 0x80 == 0 {
+            for dot in out {
+                *dot = if *dot & CLEAR == 0 { *dot } else { fallback };
+            }
+            return 0;
+        }
+        let mut tiles = [CLEAR; DOTS];
+        tile_line(line, tile, state, &mut tiles);
+        if state.ula_control & 0x81 == 1 {
+            stencil(out, &tiles, fallback);
+        } else {
+            compose(out, &tiles, fallback);
+        }
+        0
+    }
+}
+
+/// Rule 10.1: the refusals by a lawful state, 6, 7, 5, 8.
 fn refusal(state: &State) -> u8 {
     let lores = state.layers & 0x80 != 0;
     let tilemap = state.tile_control & 0x80 != 0;
@@ -62,9 +106,7 @@ fn refusal(state: &State) -> u8 {
     } else {
         320
     };
-    if !lawful(state) {
-        4
-    } else if lores && tilemap {
+    if lores && tilemap {
         6
     } else if state.plus_on && state.palette_control & 1 != 0 {
         7

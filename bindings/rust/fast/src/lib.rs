@@ -8,10 +8,10 @@ mod record;
 mod registers;
 mod state;
 
-pub use draw::draw;
+pub use draw::{draw, draw_lawful};
 pub use pack::{fewest, pack, CHAINED, MARKED, PLAIN};
 pub use record::{check_record, read_record, write_record, OLD_RECORD_LENGTH, RECORD_LENGTH};
-pub use registers::{write_port, write_register};
+pub use registers::{write_port, write_port_lawful, write_register, write_register_lawful};
 pub use state::{lawful, State};
 
 /// The bytes of a bank.

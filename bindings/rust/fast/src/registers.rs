@@ -8,9 +8,16 @@ use crate::widen;
 
 /// Writes a register; a refusal leaves the state.
 pub fn write_register(state: &mut State, number: u8, value: u8) -> u8 {
-    if !lawful(state) {
-        return 4;
+    if lawful(state) {
+        write_register_lawful(state, number, value)
+    } else {
+        4
     }
+}
+
+/// Writes a register of a state that the caller knows is lawful, and leaves it
+/// so: many writes need one judging.
+pub fn write_register_lawful(state: &mut State, number: u8, value: u8) -> u8 {
     match number {
         0x08 => state.peripheral = value,
         0x14 => state.transparent = value,
@@ -98,9 +105,15 @@ fn write_colour(state: &mut State, colour: u16) {
 
 /// Writes a port; a refusal leaves the state.
 pub fn write_port(state: &mut State, port: u16, value: u8) -> u8 {
-    if !lawful(state) {
-        return 4;
+    if lawful(state) {
+        write_port_lawful(state, port, value)
+    } else {
+        4
     }
+}
+
+/// Writes a port of a state that the caller knows is lawful, and leaves it so.
+pub fn write_port_lawful(state: &mut State, port: u16, value: u8) -> u8 {
     match port {
         0x00FE => state.border = value & 7,
         0x00FF => state.timex = value,

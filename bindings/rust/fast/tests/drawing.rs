@@ -7,18 +7,21 @@ use model::ula::{colouring, Colouring};
 use model::{ula_mode, Mode, State};
 use std::collections::BTreeSet;
 
-/// Draws with both and compares reply and dots.
+/// Draws with both and compares reply and dots; with the form that does not
+/// judge, too, if the state is lawful.
 fn compare(line: u32, ula: &[u8], tile: &[u8], state: &State, length: usize) -> u8 {
     let mut expected = vec![0xAAAA; length];
-    let mut drawn = expected.clone();
     let reply = model::draw(line, ula, tile, state, &mut expected);
-    assert_eq!(
-        fast::draw(line, ula, tile, &quick(state), &mut drawn),
-        reply
-    );
-    assert_eq!(drawn, expected, "line {line} of {state:?}");
+    let lawful = model::lawful(state).then_some(fast::draw_lawful as Drawing);
+    for draw in [fast::draw as Drawing].into_iter().chain(lawful) {
+        let mut drawn = vec![0xAAAA; length];
+        assert_eq!(draw(line, ula, tile, &quick(state), &mut drawn), reply);
+        assert_eq!(drawn, expected, "line {line} of {state:?}");
+    }
     reply
 }
+
+type Drawing = fn(u32, &[u8], &[u8], &fast::State, &mut [u16]) -> u8;
 
 /// Leads a random state to one of the modes.
 fn lead(random: &mut Random, state: &mut State, mode: u64) {
@@ -140,5 +143,21 @@ fn whole_screens() {
                 compare(line, &ula, &tile, &state, 640);
             }
         }
+    }
+}
+
+/// What the benchmark takes it for: the other form leaves the judging out.
+#[test]
+fn only_one_form_judges() {
+    let mut random = Random::new(5);
+    let bank = bank(&mut random);
+    for _ in 0..1_000 {
+        let mut state = lawful_state(&mut random);
+        spoil(&mut random, &mut state);
+        let state = quick(&state);
+        let mut line = [0; 640];
+        assert_eq!(fast::draw(100, &bank, &bank, &state, &mut line), 4);
+        assert_eq!(line, [0; 640]);
+        assert_ne!(fast::draw_lawful(100, &bank, &bank, &state, &mut line), 4);
     }
 }

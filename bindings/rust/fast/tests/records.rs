@@ -21,6 +21,7 @@ fn a_long_run_of_writes() {
     let mut random = Random::new(12);
     let mut state = model::State::reset();
     let mut written = fast::State::reset();
+    let mut unjudged = fast::State::reset();
     let ports = [0x00FE, 0x00FF, 0xBF3B, 0xFF3B, 0x01FF, 0x243B];
     for _ in 0..60_000 {
         let value = match random.below(3) {
@@ -32,16 +33,36 @@ fn a_long_run_of_writes() {
             let port = random.pick(&ports);
             let (reply, after) = model::write_port(&state, port, value);
             assert_eq!(fast::write_port(&mut written, port, value), reply);
+            let form = fast::write_port_lawful;
+            assert_eq!(form(&mut unjudged, port, value), reply);
             (reply, after)
         } else {
             let any = random.byte();
             let number = random.pick(&[0x40, 0x41, 0x43, 0x44, 0x44, 0x1A, any]);
             let (reply, after) = model::write_register(&state, number, value);
             assert_eq!(fast::write_register(&mut written, number, value), reply);
+            let form = fast::write_register_lawful;
+            assert_eq!(form(&mut unjudged, number, value), reply);
             (reply, after)
         };
         assert_eq!(written, quick(&after), "{reply}");
+        assert_eq!(unjudged, written, "{reply}");
+        assert!(fast::lawful(&unjudged));
         state = after;
+    }
+}
+
+/// Every write of a register to a state, by one form and by the model.
+fn write_each(state: &model::State, write: fn(&mut fast::State, u8, u8) -> u8) {
+    for number in 0..=255 {
+        for value in 0..=255 {
+            let (reply, after) = model::write_register(state, number, value);
+            let mut written = quick(state);
+            assert_eq!(write(&mut written, number, value), reply);
+            if reply == 0 || value == 255 {
+                assert_eq!(written, quick(&after));
+            }
+        }
     }
 }
 
@@ -55,16 +76,27 @@ fn each_register_and_value_from_many_states() {
         }
         state.held = round % 2 == 0;
         state.half = if state.held { random.byte() } else { 0 };
-        for number in 0..=255 {
-            for value in 0..=255 {
-                let (reply, after) = model::write_register(&state, number, value);
-                let mut written = quick(&state);
-                assert_eq!(fast::write_register(&mut written, number, value), reply);
-                if reply == 0 || value == 255 {
-                    assert_eq!(written, quick(&after));
-                }
-            }
+        write_each(&state, fast::write_register);
+        if model::lawful(&state) {
+            write_each(&state, fast::write_register_lawful);
         }
+    }
+}
+
+/// What the benchmark takes them for: the other forms leave the judging out.
+#[test]
+fn only_one_form_of_a_write_judges() {
+    let mut random = Random::new(17);
+    for _ in 0..1_000 {
+        let mut state = lawful_state(&mut random);
+        spoil(&mut random, &mut state);
+        let spoilt = quick(&state);
+        let mut state = spoilt.clone();
+        assert_eq!(fast::write_register(&mut state, 0x14, 1), 4);
+        assert_eq!(fast::write_port(&mut state, 0x00FF, 1), 4);
+        assert_eq!(state, spoilt);
+        assert_eq!(fast::write_register_lawful(&mut state, 0x14, 1), 0);
+        assert_eq!(fast::write_port_lawful(&mut state, 0x00FF, 1), 0);
     }
 }
 
