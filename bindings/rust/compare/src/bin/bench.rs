@@ -26,12 +26,14 @@ nothing is clipped. Narephon's calls are given a record each time. Lent layers a
 with them to the same line drawn without. They are noise, other in each line: a third of Layer 2 is transparent, a third
 colours, a third colours with priority; half of the sprites is transparent, half colours. Desks are Narephon beside
 Narephon too: a call by the member in the last held seat to the same call on a record. Carried previews are one call for
-all lines, beside fast reading the record once and doing the same entries between its lines.";
+all lines, beside fast reading the record once and doing the same entries between its lines. Fast judges its state at
+each line and each entry; where a table says so it judges it once, as it reads the record, which is what Narephon does.";
 
 /// What the tables measure.
 const BESIDE_FAST: [&str; 2] = ["Narephon", "fast"];
 const BESIDE_PLAIN: [&str; 2] = ["draw_layers", "draw"];
 const BESIDE_RECORD: [&str; 2] = ["desk", "record"];
+const BESIDE_ONCE: [&str; 2] = ["judging each", "judging once"];
 
 fn main() {
     let mut random = Random::new(1);
@@ -141,15 +143,27 @@ impl Picture {
         black_box(&self.0);
     }
 
-    /// Fast with the entries of each line done before it is drawn.
-    fn fast_traced(&mut self, record: &[u8], banks: &[Vec<u8>; 2], entries: &[Entry]) {
-        let (_, _, mut state) = fast::read_record(black_box(record));
+    /// Fast with the entries of each line done before it is drawn. It judges its state at each of both, or only where it
+    /// reads it.
+    fn fast_traced<const JUDGES: bool>(
+        &mut self,
+        record: &[u8],
+        banks: &[Vec<u8>; 2],
+        entries: &[Entry],
+    ) {
+        let (read, _, mut state) = fast::read_record(black_box(record));
+        assert_eq!(read, 0);
+        let draw = if JUDGES {
+            fast::draw
+        } else {
+            fast::draw_lawful
+        };
         let mut entries = entries.iter().peekable();
         for (line, dots) in (0..LINES).zip(self.0.chunks_exact_mut(narephon::DOTS)) {
             while let Some(entry) = entries.next_if(|entry| u32::from(entry[0]) <= line) {
-                assert_eq!(fast_write(&mut state, *entry), 0);
+                assert_eq!(fast_write::<JUDGES>(&mut state, *entry), 0);
             }
-            let reply = fast::draw(line, &banks[0], &banks[1], black_box(&state), dots);
+            let reply = draw(line, &banks[0], &banks[1], black_box(&state), dots);
             assert_eq!(reply, 0);
         }
         black_box(&self.0);
@@ -214,36 +228,76 @@ fn preview(what: &str, record: &[u8], banks: &[Vec<u8>; 2]) -> [Row; 2] {
     })
 }
 
-fn fast_write(state: &mut fast::State, [_, kind, number, byte]: Entry) -> u8 {
-    match kind {
-        0 => fast::write_register(state, number, byte),
-        _ => fast::write_port(state, PORTS[usize::from(number)], byte),
+/// Does an entry, judging the state first or not.
+fn fast_write<const JUDGES: bool>(state: &mut fast::State, [_, kind, number, byte]: Entry) -> u8 {
+    let port = || PORTS[usize::from(number)];
+    match (kind, JUDGES) {
+        (0, true) => fast::write_register(state, number, byte),
+        (0, false) => fast::write_register_lawful(state, number, byte),
+        (_, true) => fast::write_port(state, port(), byte),
+        (_, false) => fast::write_port_lawful(state, port(), byte),
     }
 }
 
-/// Whole previews by one call, without entries and with four for each line.
+/// Whole previews by one call, without entries and with four for each line, and what judging the state for each line
+/// and entry costs.
 fn traces(random: &mut Random) {
     let base = base(random);
     let banks = [random.bytes(16_384), random.bytes(16_384)];
-    let all = screens_and_tiles(&base);
-    let mut rows: Vec<Row> = all
-        .iter()
-        .map(|(what, state)| carried(what, &record_of(state), &banks, &[], CARRIED))
-        .collect();
-    // The palette has no transparent colour by itself, and a line without such dots needs no pass for the fallback.
-    let clear = (base.palettes[0][17] >> 1) as u8;
-    for (what, mut state) in screens(&base) {
-        if ["mode 0", "mode 2", "LoRes"].contains(&what) {
-            state.transparent = clear;
-            let what = format!("{what}, some dots transparent");
-            rows.push(carried(&what, &record_of(&state), &banks, &[], CARRIED));
-        }
-    }
+    let mut previews = plain_traces(&base);
+    let plain = previews.len();
+    previews.extend(busy_traces(random, &base));
+    let rows = |previews: &[Traced], sides: [Implementation; 2], target: Option<f64>| -> Vec<Row> {
+        let row = |preview: &Traced| preview.row(&banks, sides, target);
+        previews.iter().map(row).collect()
+    };
+    let carried = [Implementation::Narephon, Implementation::FastJudging];
     print_table(
         "A whole preview, carried, with a trace of no entries; fast reads the record once",
         BESIDE_FAST,
-        &rows,
+        &rows(&previews[..plain], carried, Some(CARRIED)),
     );
+    print_table(
+        "A whole preview, carried, with 1,024 entries, four of each line; fast does them between its lines",
+        BESIDE_FAST,
+        &rows(&previews[plain..], carried, Some(TRACED)),
+    );
+    print_table(
+        "A whole preview, carried; fast judges its state once too",
+        BESIDE_FAST,
+        &rows(
+            &previews,
+            [Implementation::Narephon, Implementation::FastLawful],
+            None,
+        ),
+    );
+    print_costs(
+        "What judging at each line and each entry costs: fast that does so beside fast that judges once",
+        BESIDE_ONCE,
+        &rows(&previews, [Implementation::FastJudging, Implementation::FastLawful], None),
+    );
+}
+
+/// Every screen, and some with transparent dots, by a trace of no entries.
+fn plain_traces(base: &State) -> Vec<Traced> {
+    let all = screens_and_tiles(base).into_iter();
+    let mut previews: Vec<Traced> = all
+        .map(|(what, state)| Traced::new(what, &state, Vec::new()))
+        .collect();
+    // The palette has no transparent colour by itself, and a line without such dots needs no pass for the fallback.
+    let clear = (base.palettes[0][17] >> 1) as u8;
+    for (what, mut state) in screens(base) {
+        if ["mode 0", "mode 2", "LoRes"].contains(&what) {
+            state.transparent = clear;
+            let what = format!("{what}, some dots transparent");
+            previews.push(Traced::new(what, &state, Vec::new()));
+        }
+    }
+    previews
+}
+
+/// Some screens by colour bars, and mode 0 by one write alone.
+fn busy_traces(random: &mut Random, base: &State) -> Vec<Traced> {
     let bars = four_a_line(random, &BARS);
     let some = [
         "mode 0",
@@ -253,24 +307,18 @@ fn traces(random: &mut Random) {
         "LoRes",
         "mode 0, ULAplus",
     ];
-    let mut rows: Vec<Row> = all
-        .iter()
-        .filter(|(what, _)| some.contains(&what.as_str()))
-        .map(|(what, state)| {
+    let mut previews = Vec::new();
+    for (what, state) in screens_and_tiles(base) {
+        if some.contains(&what.as_str()) {
             let what = format!("{what}; $40, $41, $FE, $26 in turn");
-            carried(&what, &record_of(state), &banks, &bars, TRACED)
-        })
-        .collect();
+            previews.push(Traced::new(what, &state, bars.clone()));
+        }
+    }
     for (what, write) in ALONE {
         let entries = four_a_line(random, &[write]);
-        let what = format!("mode 0; {what} alone");
-        rows.push(carried(&what, &record_of(&base), &banks, &entries, TRACED));
+        previews.push(Traced::new(format!("mode 0; {what} alone"), base, entries));
     }
-    print_table(
-        "A whole preview, carried, with 1,024 entries, four of each line; fast does them between its lines",
-        BESIDE_FAST,
-        &rows,
-    );
+    previews
 }
 
 /// A kind and a number of an entry: the index, a colour, the border and the scroll, as colour bars have them.
@@ -298,23 +346,59 @@ fn four_a_line(random: &mut Random, writes: &[[u8; 2]]) -> Vec<Entry> {
     writes.enumerate().take(1_024).map(entry).collect()
 }
 
-fn carried(what: &str, record: &[u8], banks: &[Vec<u8>; 2], entries: &[Entry], target: f64) -> Row {
-    let trace = trace_of(entries);
-    let mut pictures = [Picture::new(), Picture::new()];
-    let [ours, other] = &mut pictures;
-    let times = interleaved(
-        150,
-        1,
-        &mut [&mut || ours.carried(record, banks, &trace), &mut || {
-            other.fast_traced(record, banks, entries)
-        }],
-    );
-    assert!(ours.0 == other.0, "{what} differs");
-    Row {
-        what: what.to_string(),
-        measured: times[0],
-        other: times[1],
-        target: Some(target),
+/// Who draws a preview by a trace: Narephon, which judges the state once, fast that judges it at each line and each
+/// entry, or fast that judges it once, where it reads it.
+#[derive(Clone, Copy)]
+enum Implementation {
+    Narephon,
+    FastJudging,
+    FastLawful,
+}
+
+/// A preview by a trace.
+struct Traced {
+    what: String,
+    record: Vec<u8>,
+    entries: Vec<Entry>,
+    trace: Vec<u8>,
+}
+
+impl Traced {
+    fn new(what: String, state: &State, entries: Vec<Entry>) -> Traced {
+        Traced {
+            what,
+            record: record_of(state),
+            trace: trace_of(&entries),
+            entries,
+        }
+    }
+
+    fn draw(&self, side: Implementation, banks: &[Vec<u8>; 2], picture: &mut Picture) {
+        let (record, entries) = (&self.record, &self.entries);
+        match side {
+            Implementation::Narephon => picture.carried(record, banks, &self.trace),
+            Implementation::FastJudging => picture.fast_traced::<true>(record, banks, entries),
+            Implementation::FastLawful => picture.fast_traced::<false>(record, banks, entries),
+        }
+    }
+
+    fn row(&self, banks: &[Vec<u8>; 2], sides: [Implementation; 2], target: Option<f64>) -> Row {
+        let mut pictures = [Picture::new(), Picture::new()];
+        let [measured, other] = &mut pictures;
+        let times = interleaved(
+            150,
+            1,
+            &mut [&mut || self.draw(sides[0], banks, measured), &mut || {
+                self.draw(sides[1], banks, other)
+            }],
+        );
+        assert!(measured.0 == other.0, "{} differs", self.what);
+        Row {
+            what: self.what.clone(),
+            measured: times[0],
+            other: times[1],
+            target,
+        }
     }
 }
 
