@@ -3,15 +3,14 @@
 use Prim.Native.Nat.{ℕ}
 use mathlib.Core.Path.{_≡_, refl, sym, ap, _∙_}
 use mathlib.Core.List.{List}
-use mathlib.Core.Bool.{Bool, true, false, cond, _&&_}
-use native.Mathlib.Omega.{arith}
+use mathlib.Core.Bool.{Bool, true, false, cond}
 use lib.ListN.{length}
-use lib.Dec.{eqb}
 use Rattle.lists.proofs.Cond.{if-true, either}
 use Rattle.reply.specs.declared.Reply.{Reply}
-use Rattle.reply.specs.declared.Reply.the-variants.{Done, NoLine, BankLength, BufferLength, NoMode, LoresWithTiles, NextWithPlus, FarOffset, WrongVersion}
+use Rattle.reply.specs.declared.Reply.the-variants.{Done, WrongVersion}
 use Rattle.reply.specs.Reply.{isDone}
 use Rattle.reply.proofs.Done.{is-done}
+use Rattle.reply.proofs.NotFour.{NotFour, done-not-four}
 use Rattle.reply.proofs.Order.{hit-each}
 use Rattle.state.specs.declared.State.{State}
 use Rattle.state.specs.declared.Answer.{Answer}
@@ -20,8 +19,6 @@ use Rattle.state.specs.Reset.{resetState}
 use Rattle.state.specs.Lawful.{lawfulState}
 use Rattle.state.specs.Typed.{Typed}
 use Rattle.frame.proofs.Claims.{frameLawful, frame-done}
-use Rattle.surface.specs.declared.lines.LineNumber.{LineNumber}
-use Rattle.surface.specs.Lines.{isLine}
 use Rattle.register_answers.specs.declared.Reading.{Reading}
 use Rattle.register_answers.specs.Answers.{unread}
 use Rattle.register_laws.specs.Claims.{LawfulStays}
@@ -35,7 +32,7 @@ use Rattle.record_layout.specs.Claims.{IsRecord}
 use Rattle.record_layout.proofs.Stages.{accepts, done-accepted}
 use Rattle.record_layout.proofs.RoundTrip.{long, state-lawful}
 use Rattle.record_layout.proofs.Claims.{readsKept, read-told, current-read, readLawful, record-taken, refusesOther}
-use Rattle.line_replies.specs.Replies.{lineReply, lengthsReply, stateReply, loresWithTiles, nextWithPlus, noMode, farOffset}
+use Rattle.line_replies.proofs.NotFour.{line-not-four, lengths-not-four, state-not-four}
 use Rattle.lent.specs.declared.changes.Change.{Change}
 use Rattle.lent.specs.declared.changes.Change.the-variants.{NextFrame, Register, Port}
 use Rattle.lent.specs.declared.queries.Query.{Query}
@@ -44,7 +41,7 @@ use Rattle.lent.specs.Calls.{changed, asked, ByteWritten}
 use Rattle.lent.specs.Lent.{lentAnswer, lentAfter, lentReading}
 use Rattle.lent_drawing.specs.Drawn.{lentDrawReply}
 use Rattle.lent_laws.specs.Claims.{ChangeReadsBack, NeverNotLawful, OldLeft}
-use Rattle.lent_laws.proofs.NotFour.{NotFour, other, read-not-four, record-not-four}
+use Rattle.lent_laws.proofs.NotFour.{read-not-four, record-not-four}
 
 -- every change keeps a lawful and typed state so
 pub change-keeps : (c : Change) (s : State) → ByteWritten c → Typed s → lawfulState s ≡ true
@@ -86,7 +83,7 @@ asking reply v b x y h e = go (isDone (readAs v b .reply)) refl
     go false d = rw e (read-not-four v b)
 
 change-not-four : (c : Change) (s : State) → lawfulState s ≡ true → NotFour (changed c s .reply)
-change-not-four NextFrame s h = rw (frame-done s h) (other Done 0 refl (λ z. omega arith))
+change-not-four NextFrame s h = rw (frame-done s h) done-not-four
 change-not-four (Register n v) s h = neverFour .registers s n v h
 change-not-four (Port n v) s h = neverFour .ports s n v h
 
@@ -94,33 +91,16 @@ query-not-four : (q : Query) (s : State) → lawfulState s ≡ true → NotFour 
 query-not-four (query.Register n) s h = neverFour .register-reads s n h
 query-not-four (query.Port n) s h = neverFour .port-reads s n h
 
-line-not-four : (l : LineNumber) → NotFour (lineReply l)
-unfolding lineReply
-line-not-four l = either NotFour (isLine l) _ _ (other Done 0 refl (λ z. omega arith)) (other NoLine 1 refl (λ z. omega arith))
-
-lengths-not-four : (ula tile dots : ℕ) → NotFour (lengthsReply ula tile dots)
-unfolding lengthsReply
-lengths-not-four ula tile dots =
-    either NotFour (eqb ula 16384 && eqb tile 16384) _ _
-    (either NotFour (eqb dots 640) _ _ (other Done 0 refl (λ z. omega arith)) (other BufferLength 3 refl (λ z. omega arith)))
-    (other BankLength 2 refl (λ z. omega arith))
-
-state-not-four : (s : State) → NotFour (stateReply (s .ula) (s .tiles) (s .palette) (s .ports))
-unfolding stateReply
-state-not-four s =
-    either NotFour (loresWithTiles (s .ula) (s .tiles)) _ _ (other LoresWithTiles 6 refl (λ z. omega arith))
-    (either NotFour (nextWithPlus (s .palette) (s .ports)) _ _ (other NextWithPlus 7 refl (λ z. omega arith))
-    (either NotFour (noMode (s .ula) (s .ports)) _ _ (other NoMode 5 refl (λ z. omega arith))
-    (either NotFour (farOffset (s .tiles)) _ _ (other FarOffset 8 refl (λ z. omega arith)) (other Done 0 refl (λ z. omega arith)))))
-
 pub neverNotLawful : NeverNotLawful
 unfolding lentAnswer lentReading lentDrawReply readRecord
 neverNotLawful = record {
   changes = λ b c. asking (λ (a : Answer). a .reply) current b (changed c (readCurrent b .state)) (unchanged b) (change-not-four c (readCurrent b .state)) refl;
   queries = λ b q. asking (λ (a : Reading). a .reply) (versionOf (length b)) b (asked q (readRecord b .state)) (unread (readRecord b .reply)) (query-not-four q (readRecord b .state)) refl;
   drawings =
-      λ b line ula tile dots. hit-each NotFour _ (other Done 0 refl (λ z. omega arith))
-      (line-not-four line, (lengths-not-four ula tile dots, (record-not-four b, (state-not-four (readRecord b .state), tt))));
+      λ b line ula tile dots.
+      let s = readRecord b .state in
+      hit-each NotFour _ done-not-four
+      (line-not-four line, (lengths-not-four ula tile dots, (record-not-four b, (state-not-four (s .ula) (s .tiles) (s .palette) (s .ports), tt))));
 }
 
 -- ---- old records

@@ -10,6 +10,7 @@ use lib.Dec.{leb}
 use borrow.Author.Tests.{le-leb, lt-leb, leb-true, lt-ltb, le-ltb}
 use Rattle.lists.proofs.Cond.{if-true, if-false, either}
 use Rattle.reply.specs.declared.Reply.the-variants.{Done, NotLawful, NoRegister, OutOfBounds}
+use Rattle.reply.proofs.NotFour.{NotFour, other, same-not-four, done-not-four}
 use Rattle.state.specs.declared.State.{State}
 use Rattle.state.specs.declared.Answer.{Answer}
 use Rattle.state.specs.Answer.{done, refused}
@@ -19,7 +20,7 @@ use Rattle.state.specs.Lawful.{lawfulState}
 use Rattle.state.specs.Typed.{Typed}
 use Rattle.state.specs.Groups.{paletteWithHalf, turnsWithUla, turnsWithTiles}
 use Rattle.state.specs.With.{withPalette, withTurns}
-use Rattle.register_answers.specs.Answers.{ifFits, given, writeLawful, unread}
+use Rattle.register_answers.specs.Answers.{ifFits, given, writeLawful}
 use Rattle.register_answers.specs.Rows.{WriteRow, writeBy, readBy}
 use Rattle.register_clips.specs.Clips.{ulaClipWritten, tileClipWritten, restarted}
 use Rattle.register_colours.specs.Colours.{paletteAt, paletteChoice, colourAt}
@@ -27,18 +28,20 @@ use Rattle.register_palettes.specs.Palettes.{indexWritten, eightWritten, contro
 use Rattle.register_ports.specs.Ports.{modeGroup, plusWritten, plusRead, portWrites, portReads}
 use Rattle.register_tables.specs.Tables.{registerWrites, registerReads}
 use Rattle.registers.specs.Registers.{writeRegister, writePort, readRegister, readPort}
-use Rattle.reply.specs.Reply.{replyNumber}
 use Rattle.register_answers.specs.declared.Reading.{Reading}
 use Rattle.register_laws.specs.Claims.{Each, none, _▷_, NoneOf, LawfulStays, RefusedSame, NeverFour, Takes, ReadsBack, PortsTake, PortsReadBack, EightOnce, NineOnce, NineTwice, NineRefused, HalfDropped, HalfKept, fourWrites, ClipsTake, FourClipWrites, TurnsRestarted, ClipReads, TurnsReads, ColourReads, ModeReads, WriteOnly, portNumbers, OthersMissing}
 use Rattle.state.proofs.Colours.{colour-at}
 use Rattle.register_laws.proofs.Parts.{Parts, join, split, apart, palette-lawful}
-use Rattle.register_laws.proofs.Rows.{Sound, by-rows, NotFour, by-reads, readNumbers, no-write-row, no-read-row}
+use Rattle.register_laws.proofs.Rows.{Sound, by-rows, by-reads, readNumbers, no-write-row, no-read-row}
 use Rattle.register_laws.proofs.Effects.{registers-sound, ports-sound, ula-turn, tile-turn, ula-clip, tile-clip}
 use Rattle.register_laws.proofs.Calls.{write-row, port-row, read-row, read-port-row, accepted, if-done}
 use Rattle.register_laws.proofs.Half.{stored-over, lawful-same, registers-same, ports-same}
 use Rattle.register_laws.proofs.Turns.{four, restart-set, restart-clear, bit-of}
 
 -- ---- every write
+
+no-register : NotFour NoRegister
+no-register = other NoRegister 9 refl (λ z. omega arith)
 
 module _ (rows : List WriteRow) (sound : Each (λ r. Sound (r .effect)) rows) (s : State) (n v : ℕ) where
   written-parts : v < 256 → Parts s → Parts (writeLawful s (writeBy rows s n v) .state)
@@ -55,6 +58,10 @@ module _ (rows : List WriteRow) (sound : Each (λ r. Sound (r .effect)) rows) (s
       either (λ a. (a .reply ≡ Done → ⊥) → a .state ≡ s) (lawfulState s) (writeBy rows s n v) (refused NotLawful s)
       (by-rows (λ a. (a .reply ≡ Done → ⊥) → a .state ≡ s) rows s n v (λ h. refl) (λ f g. g .clean s v) sound) (λ h. refl)
 
+  -- no row refuses by 4, of whatever state
+  not-four : NotFour (writeBy rows s n v .reply)
+  not-four = by-rows (λ a. NotFour (a .reply)) rows s n v no-register (λ f g. g .not-four s v) sound
+
 pub lawfulStays : LawfulStays
 unfolding LawfulStays writeRegister writePort
 lawfulStays = (stays registerWrites registers-sound, stays portWrites ports-sound)
@@ -63,21 +70,12 @@ pub refusedSame : RefusedSame
 unfolding RefusedSame writeRegister writePort
 refusedSame = (hands-back registerWrites registers-sound, hands-back portWrites ports-sound)
 
-four-not : (a b : Answer) → a ≡ b → NotFour b → NotFour a
-four-not a b e h d = h (sym (ap (λ (x : Answer). x .reply) e) ∙ d)
-
 -- a read that gives a byte, or is refused as no register
 abbrev ReadNotFour : Reading → Type 0
-ReadNotFour r = r .reply ≡ NotLawful → ⊥
+ReadNotFour r = NotFour (r .reply)
 
-gives : Done ≡ NotLawful → ⊥
-gives e = omega (arith, ap replyNumber e)
-
-no-register : ReadNotFour (unread NoRegister)
-no-register e = omega (arith, ap replyNumber e)
-
-read-four-not : (a b : Reading) → a ≡ b → ReadNotFour b → ReadNotFour a
-read-four-not a b e h d = h (sym (ap (λ (x : Reading). x .reply) e) ∙ d)
+gives : NotFour Done
+gives = done-not-four
 
 register-reads-give : (s : State) → Each (λ r. ReadNotFour (r .reading s)) registerReads
 register-reads-give s =
@@ -88,14 +86,18 @@ port-reads-give : (s : State) → Each (λ r. ReadNotFour (r .reading s)) portRe
 port-reads-give s =
     either ReadNotFour (timexOn (s .ula)) _ _ gives no-register ▷ either ReadNotFour (modeGroup s) _ _ gives gives ▷ none
 
+pub register-not-four : (s : State) (n v : ℕ) → NotFour (writeBy registerWrites s n v .reply)
+register-not-four = not-four registerWrites registers-sound
+
+pub port-not-four : (s : State) (n v : ℕ) → NotFour (writeBy portWrites s n v .reply)
+port-not-four = not-four portWrites ports-sound
+
 pub neverFour : NeverFour
 neverFour = record {
-  registers =
-      λ s n v h. four-not _ _ (write-row s n v h) (by-rows NotFour registerWrites s n v (λ e. omega (arith, ap replyNumber e)) (λ f g. g .not-four s v) registers-sound);
-  ports =
-      λ s n v h. four-not _ _ (port-row s n v h) (by-rows NotFour portWrites s n v (λ e. omega (arith, ap replyNumber e)) (λ f g. g .not-four s v) ports-sound);
-  register-reads = λ s n h. read-four-not _ _ (read-row s n h) (by-reads ReadNotFour registerReads s n no-register (register-reads-give s));
-  port-reads = λ s n h. read-four-not _ _ (read-port-row s n h) (by-reads ReadNotFour portReads s n no-register (port-reads-give s));
+  registers = λ s n v h. same-not-four _ _ (ap (λ (x : Answer). x .reply) (write-row s n v h)) (register-not-four s n v);
+  ports = λ s n v h. same-not-four _ _ (ap (λ (x : Answer). x .reply) (port-row s n v h)) (port-not-four s n v);
+  register-reads = λ s n h. same-not-four _ _ (ap (λ (x : Reading). x .reply) (read-row s n h)) (by-reads ReadNotFour registerReads s n no-register (register-reads-give s));
+  port-reads = λ s n h. same-not-four _ _ (ap (λ (x : Reading). x .reply) (read-port-row s n h)) (by-reads ReadNotFour portReads s n no-register (port-reads-give s));
 }
 
 -- ---- reading back

@@ -1,5 +1,5 @@
 -- What holds of a write to each row holds of every write. By induction over the rows of a table.
-use mathlib.Core.Path.{_≡_, refl, ap, _∙_}
+use mathlib.Core.Path.{_≡_, refl, _∙_}
 use mathlib.Core.List.{List, [], _∷_}
 use mathlib.Core.Bool.{Bool, true, false, cond}
 use Prim.Native.Nat.{ℕ, _<_}
@@ -7,8 +7,8 @@ use native.Mathlib.Omega.{arith}
 use lib.Dec.{eqb}
 use borrow.Author.Tests.{eqb-true, ne-eqb}
 use Rattle.lists.proofs.Cond.{if-false, either}
-use Rattle.reply.specs.declared.Reply.the-variants.{Done, NotLawful, NoRegister}
-use Rattle.reply.specs.Reply.{replyNumber}
+use Rattle.reply.specs.declared.Reply.the-variants.{Done, NoRegister, OutOfBounds}
+use Rattle.reply.proofs.NotFour.{NotFour, other, done-not-four}
 use Rattle.state.specs.declared.State.{State}
 use Rattle.state.specs.declared.Answer.{Answer}
 use Rattle.state.specs.Answer.{done, refused}
@@ -18,24 +18,20 @@ use Rattle.register_answers.specs.Rows.{WriteRow, writeBy, ReadRow, readBy}
 use Rattle.register_laws.specs.Claims.{Each, none, _▷_, NoneOf}
 use Rattle.register_laws.proofs.Parts.{Parts, Group}
 
--- no row refuses a state as not lawful
-abbrev pub NotFour : Answer → Type 0
-NotFour a = a .reply ≡ NotLawful → ⊥
-
 -- a row's effect keeps a lawful state lawful, a refusal of it hands the same state back, and it is never 4
 pub record Sound (f : State → ℕ → Answer) : Type 0 where
   pub kept : (s : State) (v : ℕ) → v < 256 → Parts s → Parts (f s v .state)
   pub clean : (s : State) (v : ℕ) → (f s v .reply ≡ Done → ⊥) → f s v .state ≡ s
-  pub not-four : (s : State) (v : ℕ) → NotFour (f s v)
+  pub not-four : (s : State) (v : ℕ) → NotFour (f s v .reply)
 
 -- a write that always changes the state
 pub always : (t : State → ℕ → State) → ((s : State) (v : ℕ) → v < 256 → Parts s → Parts (t s v)) → Sound (λ s v. done (t s v))
-always t k = record { kept = k; clean = λ s v h. absurd (h refl); not-four = λ s v e. omega (arith, ap replyNumber e) }
+always t k = record { kept = k; clean = λ s v h. absurd (h refl); not-four = λ s v. done-not-four }
 
 -- a write that changes the state where its value fits
 pub judged : (ok : ℕ → Bool) (t : State → ℕ → State) → ((s : State) (v : ℕ) → v < 256 → ok v ≡ true → Parts s → Parts (t s v))
     → Sound (λ s v. ifFits (ok v) (t s v) s)
-judged ok t k = record { kept = λ s v b p. keep (ok v) (t s v) s (λ e. k s v b e p) p; clean = λ s v h. same (ok v) (t s v) s h; not-four = λ s v. other (ok v) (t s v) s }
+judged ok t k = record { kept = λ s v b p. keep (ok v) (t s v) s (λ e. k s v b e p) p; clean = λ s v h. same (ok v) (t s v) s h; not-four = λ s v. fits-not-four (ok v) (t s v) s }
   where
     keep : (b : Bool) (x y : State) → (b ≡ true → Parts x) → Parts y → Parts (ifFits b x y .state)
     keep true x y f p = f refl
@@ -45,9 +41,9 @@ judged ok t k = record { kept = λ s v b p. keep (ok v) (t s v) s (λ e. k s v b
     same true x y h = absurd (h refl)
     same false x y h = refl
 
-    other : (b : Bool) (x y : State) → NotFour (ifFits b x y)
-    other true x y e = omega (arith, ap replyNumber e)
-    other false x y e = omega (arith, ap replyNumber e)
+    fits-not-four : (b : Bool) (x y : State) → NotFour (ifFits b x y .reply)
+    fits-not-four true x y = done-not-four
+    fits-not-four false x y = other OutOfBounds 10 refl (λ z. omega arith)
 
 -- the same of a write that changes one group alone
 module _ {G : Type 0} {get : State → G} {put : State → G → State} {lawful : G → Bool} {Types : G → Type 0} (group : Group G get put lawful Types) where
@@ -69,7 +65,7 @@ chosen b f g p q =
     record {
       kept = λ s v l h. either (λ a. Parts (a .state)) (b s) (f s v) (g s v) (p .kept s v l h) (q .kept s v l h);
       clean = λ s v. either (λ a. (a .reply ≡ Done → ⊥) → a .state ≡ s) (b s) (f s v) (g s v) (p .clean s v) (q .clean s v);
-      not-four = λ s v. either NotFour (b s) (f s v) (g s v) (p .not-four s v) (q .not-four s v);
+      not-four = λ s v. either (λ a. NotFour (a .reply)) (b s) (f s v) (g s v) (p .not-four s v) (q .not-four s v);
     }
 
 -- what holds where no row has the number, and of the row that has it, holds of the table

@@ -8,11 +8,12 @@ use native.Mathlib.Omega.{arith}
 use lib.ListN.{length, drop, getD}
 use lib.Dec.{eqb}
 use Rattle.lists.specs.Placed.{placed}
-use Rattle.lists.proofs.Cond.{if-true, if-false, either}
+use Rattle.lists.proofs.Cond.{if-true, if-false}
 use Rattle.reply.specs.declared.Reply.{Reply}
 use Rattle.reply.specs.declared.Reply.the-variants.{Done, BankLength, BufferLength, NotLawful, NoForm, WrongVersion}
 use Rattle.reply.specs.Reply.{isDone}
 use Rattle.reply.specs.First.{firstOf, firstHit}
+use Rattle.reply.proofs.NotFour.{NotFour, other, done-not-four, piece-not-four}
 use Rattle.reply.proofs.Done.{is-done, test-met}
 use Rattle.reply.proofs.Order.{hit-each}
 use Rattle.state.specs.declared.State.{State}
@@ -43,7 +44,7 @@ use Rattle.scr_replies.proofs.Judged.{Readable, readable, reads, writable, writ
 use Rattle.lent.specs.Lent.{lentAfter}
 use Rattle.lent_scr.specs.Screens.{lentReadReply, recordAfter}
 use Rattle.lent_laws.proofs.Claims.{old-long, old-refused, old-read}
-use Rattle.lent_laws.proofs.NotFour.{NotFour, other, read-not-four, record-not-four}
+use Rattle.lent_laws.proofs.NotFour.{read-not-four, record-not-four}
 use Rattle.scr_laws.specs.Claims.{Received, ScreenReadsBack, ScreenWritesBack, ScreenLawful, ScreenAskedAgain, ScreenStored, ScreenNeverNotLawful, ScreenOld}
 use Rattle.scr_laws.proofs.Shown.{read-lawful, read-typed, read-mode}
 use Rattle.scr_laws.proofs.Written.{file-shape, file-port, file-colours, file-taken, apart, front-placed}
@@ -205,10 +206,6 @@ screenStored b bank file y z e =
     current-read (stateRead (readCurrent b .state) file) (read-typed (readCurrent b .state) file (r .1) z) (read-lawful (readCurrent b .state) file ∙ r .0)
     ∙ ap (λ (a : RecordRead). readWith passed (stateRead (a .state) file)) (sym own)
 
--- a piece of one test
-piece-not-four : (t : Bool) (r : Reply) → NotFour r → NotFour (cond t Done r)
-piece-not-four t r h = either NotFour t Done r (other Done 0 refl (λ z. omega arith)) h
-
 bank-not-four : (n : ℕ) → NotFour (bankReply n)
 bank-not-four n = piece-not-four (isBank n) BankLength (other BankLength 2 refl (λ z. omega arith))
 
@@ -222,10 +219,10 @@ pub screenNeverNotLawful : ScreenNeverNotLawful
 unfolding readJudged writeJudged
 screenNeverNotLawful = record {
   reading =
-      λ b bank file. hit-each NotFour _ (other Done 0 refl (λ z. omega arith))
+      λ b bank file. hit-each NotFour _ done-not-four
       (bank-not-four (length bank), (read-not-four current b, (form-not-four (shapeOf file .mode), tt)));
   writing =
-      λ b bank file. hit-each NotFour _ (other Done 0 refl (λ z. omega arith))
+      λ b bank file. hit-each NotFour _ done-not-four
       (bank-not-four (length bank), (file-not-four (length file), (record-not-four b, (form-not-four (modeIn (readRecord b .state)), tt))));
 }
 
