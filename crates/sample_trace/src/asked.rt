@@ -1,5 +1,6 @@
 // Lines asked for by a trace, and their answers printed.
 use crate::screen;
+use crate::unlawful;
 use host::report;
 use state::State;
 use surface::LineNumber;
@@ -34,9 +35,6 @@ pub fn ask(label: &[u8], line: usize, trace: &[u8]) {
     ask_of(label, line, screen(), trace);
 }
 
-// Of a state with border 8, which is not lawful.
 pub fn ask_unlawful(label: &[u8], line: usize, trace: &[u8]) {
-    let mut s = screen();
-    s.ports.border = 8;
-    ask_of(label, line, s, trace);
+    ask_of(label, line, unlawful(), trace);
 }

@@ -1,5 +1,5 @@
 // Lines drawn by traces: none with entries, stamps, entries that are refused, states that are refused for some lines, traces that are no
-// traces; and all lines carried, which are the lines asked for alone. After a reply stand the place and the first dot.
+// traces, a state that is not lawful; and all lines carried, which are the lines asked for alone. After a reply stand the place and the first dot.
 mod asked;
 mod frames;
 mod traces;
@@ -8,6 +8,7 @@ use asked::ask;
 use asked::ask_unlawful;
 use frames::carry;
 use frames::carry_plain;
+use frames::carry_unlawful;
 use state::State;
 
 // Border and paper 0 are colour 56, border 1 is 0.
@@ -15,6 +16,13 @@ fn screen() -> State {
     let a = registers::write_register(state::reset(), 0x40, 16);
     let b = registers::write_register(a.state, 0x41, 0x1C);
     b.state
+}
+
+// Border 8 is out of its bounds.
+fn unlawful() -> State {
+    let mut s = screen();
+    s.ports.border = 8;
+    s
 }
 
 fn print_none() {
@@ -94,8 +102,16 @@ fn print_first() {
     ask(b"26 before 9", 255, &traces::FALLING_BAD);
     ask(b"1 before 25", 256, &traces::TWO_BYTES);
     ask_unlawful(b"4 before 25", 0, &traces::TWO_BYTES);
+    carry_unlawful(b"4 before 25", &traces::TWO_BYTES);
     ask_unlawful(b"4 before 9", 20, &traces::NO_REGISTER);
     ask(b"9 before 6", 10, &traces::BAD_AFTER_TILES);
+}
+
+// The state is judged before its entries: one that would make it lawful is not tried.
+fn print_unlawful() {
+    ask_unlawful(b"border 8, then 1", 0, &traces::ENDS);
+    ask_unlawful(b"border 8, then 1", 255, &traces::ENDS);
+    carry_unlawful(b"border 8, then 1", &traces::ENDS);
 }
 
 fn main() {
@@ -105,4 +121,5 @@ fn main() {
     print_states();
     print_bad();
     print_first();
+    print_unlawful();
 }

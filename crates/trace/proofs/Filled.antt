@@ -19,7 +19,8 @@ use Rattle.surface.specs.declared.lines.LineNumber.{LineNumber}
 use Rattle.line_replies.specs.Replies.{drawnIf}
 use Rattle.line.specs.Lines.{lineDot, drawnLine}
 use Rattle.trace_runs.specs.Runs.{Run, after}
-use Rattle.trace.specs.Lines.{runReply, runDots}
+use Rattle.trace_replies.specs.Replies.{runReply}
+use Rattle.trace.specs.Lines.{runDots}
 use Rattle.trace.specs.Carried.{lineOf, carriedLine, carriedReply, carriedPlace, carriedDots, carriedReplies, carriedPlaces}
 
 -- a line is 640 numbers, drawn or left

@@ -1,13 +1,11 @@
--- A lawful state stays lawful through every entry, so that a line of a run asks for nothing more. By induction on the entries, from the
--- claim that writes keep it so.
-use Prim.Native.Nat.{ℕ, zero, suc, _+_, _*_, _<_}
+-- A lawful state stays lawful through every entry, so that a line of a run asks for nothing more. Every entry keeps it so, from the claim that
+-- writes do.
+use Prim.Native.Nat.{ℕ, _+_, _*_, _<_}
 use mathlib.Core.Path.{_≡_, sym, ap, subst, _∙_}
 use mathlib.Core.List.{List}
-use mathlib.Core.Bool.{Bool, true}
-use lib.Dec.{leb, eqb}
+use mathlib.Core.Bool.{true}
+use lib.Dec.{leb}
 use Rattle.lists.specs.Bytes.{Bytes}
-use Rattle.lists.proofs.Cond.{either}
-use Rattle.reply.specs.Reply.{isDone}
 use Rattle.state.specs.declared.State.{State}
 use Rattle.state.specs.declared.Answer.{Answer}
 use Rattle.state.specs.Lawful.{lawfulState}
@@ -19,13 +17,12 @@ use Rattle.register_tables.specs.Tables.{registerWrites}
 use Rattle.register_laws.specs.Claims.{LawfulStays}
 use Rattle.register_laws.proofs.Calls.{write-row, port-row}
 use Rattle.register_laws.proofs.Claims.{lawfulStays}
-use Rattle.trace_form.specs.declared.entries.Entry.{Entry}
-use Rattle.trace_form.specs.Entries.{entryCount, entryAt, lineAt}
+use Rattle.trace_form.specs.Entries.{entryCount, entryAt}
 use Rattle.trace_form.specs.Judged.{rising}
 use Rattle.trace_runs.specs.declared.runs.Carried.{Carried}
-use Rattle.trace_runs.specs.Runs.{Run, portNumber, applied, begun, outcome, tried, through, after}
+use Rattle.trace_runs.specs.Runs.{Run, portNumber, begun, after}
 use Rattle.trace_runs.specs.Bounds.{runWith, begunWith, reach, first, Sound}
-use Rattle.trace_runs.proofs.Through.{after-reach}
+use Rattle.trace_runs.proofs.Through.{through-keeps, tried-by, after-reach}
 
 -- lawful, and what the types give
 abbrev pub Kept : State → Type 0
@@ -39,25 +36,12 @@ port-kept : (s : State) (n v : ℕ) → v < 256 → Kept s → Kept (writeBy por
 unfolding LawfulStays
 port-kept s n v b (h, z) = subst (λ (a : Answer). Kept (a .state)) (port-row s n v h) (lawfulStays .1 s n v b z h)
 
-tried-kept : (e : Entry) (i : ℕ) (r : Run) → e .value < 256 → Kept (r .state) → Kept (tried e i r .state)
-unfolding tried applied
-tried-kept e i r b k =
-    let s = r .state in
-    either (λ q. Kept (q .state)) (isDone (r .reply)) (outcome i (applied s e)) r
-    (either (λ a. Kept (a .state)) (eqb (e .kind) 0) (writeBy registerWrites s (e .number) (e .value)) (writeBy portWrites s (portNumber (e .number)) (e .value))
-    (register-kept s (e .number) (e .value) b k) (port-kept s (portNumber (e .number)) (e .value) b k))
-    k
-
-pub through-kept : (p : ℕ → Bool) (t : List ℕ) → Bytes t → (n : ℕ) (r : Run) → Kept (r .state) → Kept (through p t n r .state)
-unfolding through
-through-kept p t b zero r k = k
-through-kept p t b (suc n) r k =
-    let q = through p t n r in let h = through-kept p t b n r k in
-    either (λ x. Kept (x .state)) (p (lineAt t n)) (tried (entryAt t n) n q) q (tried-kept (entryAt t n) n q (b (n * 4 + 6)) h) h
-
 pub after-kept : (s : State) (t : List ℕ) (L : ℕ) → Bytes t → Kept s → Kept (after s t L .state)
 unfolding after
-after-kept s t L b k = through-kept (λ l. leb l L) t b (entryCount t) (begun s) k
+after-kept s t L b k =
+    through-keeps (λ r. Kept (r .state)) (λ l. leb l L) t
+    (λ i r h. let e = entryAt t i in tried-by (λ x. Kept (x .state)) e i r (register-kept (r .state) (e .number) (e .value) (b (i * 4 + 6)) h) (port-kept (r .state) (portNumber (e .number)) (e .value) (b (i * 4 + 6)) h) h)
+    (entryCount t) (begun s) k
 
 -- ---- the run of a line
 

@@ -8,7 +8,8 @@ use Rattle.reply.specs.Reply.{replyNumber}
 use Rattle.state.specs.declared.State.{State}
 use Rattle.surface.specs.Lines.{numbered}
 use Rattle.trace_runs.specs.Runs.{after}
-use Rattle.trace.specs.Lines.{runReply, runDots}
+use Rattle.trace_replies.specs.Replies.{runReply}
+use Rattle.trace.specs.Lines.{runDots}
 
 -- line L's 640 numbers of 163,840
 abbrev pub lineOf : ℕ → List ℕ → List ℕ

@@ -4,21 +4,16 @@ use mathlib.Core.List.{List}
 use mathlib.Core.Bool.{cond}
 use lib.ListN.{length}
 use Rattle.reply.specs.Reply.{isDone}
-use Rattle.reply.specs.First.{firstOf}
 use Rattle.reply.specs.declared.Reply.{Reply}
 use Rattle.state.specs.declared.State.{State}
 use Rattle.surface.specs.declared.lines.LineNumber.{LineNumber}
-use Rattle.line_replies.specs.Replies.{stateReply, drawnIf}
+use Rattle.line_replies.specs.Replies.{drawnIf}
 use Rattle.line.specs.Lines.{drawnLine}
-use Rattle.trace_replies.specs.Replies.{askedReply}
+use Rattle.trace_replies.specs.Replies.{askedReply, runReply}
 use Rattle.trace_runs.specs.Runs.{Run, after}
 use Rattle.trace.specs.declared.alone.Traced.{Traced}
 
--- a line by a run: the refused entry's reply; then what the state is refused for, 6, 7, 5, 8
-unfoldable pub runReply : Run → Reply
-runReply r = firstOf (r .reply) (stateReply (r .state .ula) (r .state .tiles) (r .state .palette) (r .state .ports))
-
--- its 640 dots, or the line as it was
+-- the 640 dots of a line by a run, or the line as it was
 unfoldable pub runDots : Run → List ℕ → List ℕ → LineNumber → List ℕ → List ℕ
 runDots r ula tile line out = drawnIf (runReply r) (drawnLine (r .state) ula tile line) out
 

@@ -7,7 +7,8 @@ ghost use Rattle.surface.specs.Lines.{isLine};
 ghost use Rattle.register_parts.specs.Parts.{stateWith};
 ghost use Rattle.line.specs.Lines.{drawnLine};
 ghost use Rattle.trace_runs.specs.Bounds.{runWith};
-ghost use Rattle.trace.specs.Lines.{runReply, runDots};
+ghost use Rattle.trace_replies.specs.Replies.{runReply};
+ghost use Rattle.trace.specs.Lines.{runDots};
 use register_parts::Registers;
 use reply::Reply;
 use surface::LineNumber;
@@ -63,12 +64,10 @@ pub fn draw_run<'a>(
         × (now (out .exit) ≡ runDots (runWith run (now (ulafirst .entry)) (now (ulasecond .entry)) (now (tilefirst .entry)) (now (tilesecond .entry)))
         (now (ula .entry)) (now (tile .entry)) line (now (out .entry))) ⌝ }
 {
-    let refused = run.reply;
     let g = run.registers;
-    let r = reply::first_of(
-        refused,
-        line_replies::state_reply(g.ula, g.tiles, g.palette, g.ports),
-    );
+    let refused = run.reply;
+    let state = line_replies::state_reply(g.ula, g.tiles, g.palette, g.ports);
+    let r = reply::first_of(refused, state);
     if reply::number(r) == 0 {
         draw_parts(
             g,

@@ -1,17 +1,17 @@
 -- The entries stamped L + 1 or less are those stamped L or less and then those stamped L + 1, where no line falls; and once an entry is refused
--- nothing is tried any more. By induction on the entries.
-use Prim.Native.Nat.{ℕ, zero, suc, _+_, _≤_, _<_}
+-- nothing is tried any more. By induction on the entries, and since each keeps it so.
+use Prim.Native.Nat.{ℕ, zero, suc, _≤_, _<_}
 use mathlib.Core.Path.{_≡_, refl, sym, ap, _∙_}
 use mathlib.Core.List.{List}
 use mathlib.Core.Bool.{Bool, true, false, _||_}
 use native.Mathlib.Omega.{arith}
 use lib.Dec.{leb, eqb}
 use borrow.Author.Tests.{leb-true, leb-false, eqb-true, eqb-false, le-leb, lt-leb, ne-eqb}
-use Rattle.lists.proofs.Cond.{if-true, if-false, either}
+use Rattle.lists.proofs.Cond.{if-true, if-false}
 use Rattle.reply.specs.Reply.{isDone}
 use Rattle.trace_form.specs.Entries.{entryCount, entryAt, lineAt}
-use Rattle.trace_runs.specs.Runs.{Run, applied, outcome, tried, triedIf, through}
-use Rattle.trace_runs.proofs.Through.{none-due}
+use Rattle.trace_runs.specs.Runs.{Run, tried, triedIf, through}
+use Rattle.trace_runs.proofs.Through.{through-keeps, tried-by, none-due}
 
 -- stamped L + 1 or less: L or less, or L + 1
 next-line : (l L : ℕ) → leb l (suc L) ≡ (leb l L || eqb l (suc L))
@@ -45,21 +45,13 @@ module _ (t : List ℕ) (up : (i j : ℕ) → i ≤ j → j < entryCount t → l
 
 -- nothing is tried after a refused entry
 pub refused-run : (p : ℕ → Bool) (t : List ℕ) (n : ℕ) (r : Run) → isDone (r .reply) ≡ false → through p t n r ≡ r
-unfolding through tried
-refused-run p t zero r h = refl
-refused-run p t (suc n) r h =
-    ap (triedIf (p (lineAt t n)) (entryAt t n) n) (refused-run p t n r h)
-    ∙ either (λ x. x ≡ r) (p (lineAt t n)) (tried (entryAt t n) n r) r (if-false (isDone (r .reply)) _ r h) refl
+unfolding tried
+refused-run p t n r h =
+    through-keeps (λ x. x ≡ r) p t (λ i x e. ap (tried (entryAt t i) i) e ∙ if-false (isDone (r .reply)) _ r h) n r refl
 
 -- a run without a refused entry has place 0
 abbrev Placed : Run → Type 0
 Placed r = isDone (r .reply) ≡ true → r .place ≡ 0
 
 pub done-place : (p : ℕ → Bool) (t : List ℕ) (n : ℕ) (r : Run) → Placed r → Placed (through p t n r)
-unfolding through tried
-done-place p t zero r h = h
-done-place p t (suc n) r h =
-    let q = through p t n r in
-    let k = done-place p t n r h in
-    let a = applied (q .state) (entryAt t n) in
-    either Placed (p (lineAt t n)) (tried (entryAt t n) n q) q (either Placed (isDone (q .reply)) (outcome n a) q (λ d. if-true (isDone (a .reply)) 0 n d) k) k
+done-place p t = through-keeps Placed p t (λ i r h. tried-by Placed (entryAt t i) i r (λ d. if-true _ 0 i d) (λ d. if-true _ 0 i d) h)

@@ -5,41 +5,49 @@ use mathlib.Core.List.{List, [], _∷_, _++_}
 use mathlib.Core.Bool.{Bool, true, false, cond}
 use native.Mathlib.Nat.{add-zero, add-suc, le-refl}
 use native.Mathlib.Omega.{arith}
-use lib.ListN.{length}
+use lib.ListN.{length, getD}
 use lib.Dec.{leb, eqb}
 use borrow.Author.Tests.{le-leb, lt-leb, eq-eqb, ne-eqb}
 use Rattle.lists.specs.Bytes.{Bytes}
 use Rattle.lists.specs.Rows.{rows}
-use Rattle.lists.proofs.Cond.{if-true, if-false}
+use Rattle.lists.proofs.Cond.{if-true, if-false, either}
 use Rattle.lists.proofs.Cuts.{cut-length}
-use Rattle.lists.proofs.Tab.{tab-ext}
+use Rattle.lists.proofs.Tab.{tab-ext, getD-tab}
 use Rattle.reply.specs.Reply.{isDone, replyNumber}
 use Rattle.reply.specs.First.{firstOf, firstHit}
 use Rattle.reply.specs.declared.Reply.{Reply}
-use Rattle.reply.specs.declared.Reply.the-variants.{Done}
+use Rattle.reply.specs.declared.Reply.the-variants.{Done, NotLawful}
+use Rattle.reply.proofs.Claims.{numberTells}
 use Rattle.reply.proofs.Done.{is-done}
 use Rattle.reply.proofs.Order.{first-done, last-of, hit-later, hit-early}
 use Rattle.state.specs.declared.State.{State}
 use Rattle.state.specs.Lawful.{lawfulReply}
+use Rattle.frame.proofs.Claims.{frameLawful}
 use Rattle.surface.specs.Lines.{numbered}
 use Rattle.surface.specs.declared.lines.LineNumber.{LineNumber}
 use Rattle.register_laws.proofs.Calls.{write-row, port-row}
+use Rattle.record_layout.specs.Record.{readRecord}
 use Rattle.line_replies.specs.Replies.{lineReply, lengthsReply, stateReply, drawReply, drawnIf}
 use Rattle.line_replies.proofs.Exits.{drawn, left}
 use Rattle.line.specs.Lines.{drawnLine}
+use Rattle.lent_laws.proofs.NotFour.{record-not-four}
 use Rattle.trace_form.specs.Entries.{entryCount, lineAt}
 use Rattle.trace_form.specs.Judged.{rising, traceReply}
 use Rattle.trace_runs.specs.Runs.{Run, applied, begun, through, entriesBy, after}
 use Rattle.trace_runs.proofs.Through.{rises, same-due, due-below}
 use Rattle.trace.specs.declared.alone.Traced.{Traced}
-use Rattle.trace.specs.Lines.{runReply, runDots, runTraced, untried, tracedAnswer, tracedDots}
-use Rattle.trace_replies.specs.Replies.{askedReply}
+use Rattle.trace_replies.specs.Replies.{askedReply, runReply}
+use Rattle.trace_replies.specs.Claims.{NoFour}
 use Rattle.trace_replies.proofs.Asked.{MetWhole, whole-met}
-use Rattle.trace.specs.Carried.{lineOf, carriedLine, carriedDots, carriedReplies, carriedPlaces}
+use Rattle.trace_replies.proofs.Claims.{noFour}
+use Rattle.trace.specs.Lines.{runDots, runTraced, untried, tracedAnswer, tracedDots}
+use Rattle.trace.specs.Carried.{lineOf, carriedLine, carriedReply, carriedDots, carriedReplies, carriedPlaces}
+use Rattle.trace.proofs.Kept.{after-kept}
 use Rattle.trace.proofs.Sound.{sound}
 use Rattle.trace_laws.specs.Cut.{cut}
-use Rattle.trace_laws.specs.Claims.{EntriesWrite, CarriedAlong, CarriedAlone, RefusedStays, PlaceOfRefused, NoEntries, CutTrace}
+use Rattle.trace_laws.specs.Claims.{EntriesWrite, CarriedAlong, CarriedAlone, RefusedStays, PlaceOfRefused, NoEntries, CutTrace, LawfulAlong, FourAtStart}
 use Rattle.trace_laws.proofs.Along.{one-more, refused-run, done-place}
+use Rattle.trace_laws.proofs.Start.{asked-four, whole-four}
 use Rattle.trace_laws.proofs.Cut as cuts
 
 -- ---- entries
@@ -204,3 +212,31 @@ cutTrace own line ula tile out s t n y z h late =
       ap (λ (x : Reply). drawnIf x (runDots (after s (cut t n) (line .0)) ula tile line out) out) q
           ∙ ap (λ (x : Run). drawnIf (askedReply line (length ula) (length tile) (length out) own t) (runDots x ula tile line out) out) r,
     )
+
+-- ---- lawful along, and 4 at the start alone
+
+pub lawfulAlong : LawfulAlong
+unfolding LawfulAlong
+lawfulAlong s t L y z h =
+    let k = after-kept s t L y (h, z) in (k, frameLawful (after s t L .state) (k .0) (k .1))
+
+-- a line alone is answered what is asked before its entries, or what it is by its run
+alone-four : (own : Reply) (line : LineNumber) (ula tile out : List ℕ) (s : State) (t : List ℕ) → tracedAnswer own line ula tile out s t .reply ≡ NotLawful → own ≡ NotLawful
+unfolding tracedAnswer NoFour
+alone-four own line ula tile out s t =
+    let q = askedReply line (length ula) (length tile) (length out) own t in
+    either (λ (x : Traced). x .reply ≡ NotLawful → own ≡ NotLawful) (isDone q) (runTraced (after s t (line .0))) (untried q) (λ e. absurd (noFour s t (line .0) e))
+    (asked-four line (length ula) (length tile) (length out) own t)
+
+carried-four : (s : State) (t : List ℕ) (L : ℕ) → L < 256 → getD (carriedReplies s t) L 0 ≡ 4 → ⊥
+unfolding carriedReplies NoFour
+carried-four s t L w e = noFour s t L (numberTells (runReply (after s t L)) NotLawful (sym (getD-tab (carriedReply s t) 256 L w) ∙ e))
+
+pub fourAtStart : FourAtStart
+fourAtStart = record {
+  alone = alone-four;
+  whole = λ own ula tile dots replies places t. whole-four ula tile dots replies places own t;
+  carried = carried-four;
+  record-alone = λ b line ula tile out t e. record-not-four b (alone-four (readRecord b .reply) line ula tile out (readRecord b .state) t e);
+  record-whole = λ b ula tile dots replies places t e. record-not-four b (whole-four ula tile dots replies places (readRecord b .reply) t e);
+}

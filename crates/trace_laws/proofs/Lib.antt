@@ -1,3 +1,4 @@
 pub mod Along
+pub mod Start
 pub mod Cut
 pub mod Claims

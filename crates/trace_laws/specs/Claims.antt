@@ -1,18 +1,20 @@
--- Rules 17.4, 17.6 and 17.8 to 17.11: what no single call states of drawings by a trace. A statement here is proved by the law of its name in proofs/Claims.antt.
+-- Rules 17.4, 17.6 and 17.8 to 17.13: what no single call states of drawings by a trace. A statement here is proved by the law of its name in proofs/Claims.antt.
 use Prim.Native.Nat.{ℕ, suc, _+_, _≤_, _<_}
 use mathlib.Core.Path.{_≡_}
 use mathlib.Core.List.{List}
 use mathlib.Core.Bool.{true, false}
-use lib.ListN.{length}
+use lib.ListN.{length, getD}
 use lib.Dec.{eqb}
 use Rattle.lists.specs.Bytes.{Bytes}
 use Rattle.lists.specs.Tab.{tab}
 use Rattle.lists.specs.Rows.{rows}
 use Rattle.reply.specs.Reply.{isDone, replyNumber}
 use Rattle.reply.specs.declared.Reply.{Reply}
-use Rattle.reply.specs.declared.Reply.the-variants.{Done}
+use Rattle.reply.specs.declared.Reply.the-variants.{Done, NotLawful}
 use Rattle.state.specs.declared.State.{State}
 use Rattle.state.specs.Lawful.{lawfulState, lawfulReply}
+use Rattle.state.specs.Typed.{Typed}
+use Rattle.frame.specs.Frame.{nextFrame}
 use Rattle.surface.specs.Lines.{numbered}
 use Rattle.surface.specs.declared.lines.LineNumber.{LineNumber}
 use Rattle.registers.specs.Registers.{writeRegister, writePort}
@@ -25,6 +27,7 @@ use Rattle.trace_runs.specs.Runs.{portNumber, applied, begun, entriesBy, after}
 use Rattle.trace.specs.Lines.{runTraced, tracedAnswer, tracedDots}
 use Rattle.trace_replies.specs.Replies.{wholeReply}
 use Rattle.trace.specs.Carried.{lineOf, carriedDots, carriedReplies, carriedPlaces}
+use Rattle.lent_trace.specs.Lent.{lentTraced, lentWhole}
 use Rattle.trace_laws.specs.Cut.{cut}
 
 -- an entry on a lawful state is the write that the call on a state makes
@@ -72,3 +75,18 @@ CutTrace =
     → ((i : ℕ) → n ≤ i → i < entryCount t → line .0 < lineAt t i)
     → (tracedAnswer own line ula tile out s (cut t n) ≡ tracedAnswer own line ula tile out s t)
     × (tracedDots own line ula tile out s (cut t n) ≡ tracedDots own line ula tile out s t)
+
+-- a lawful and typed state is so after the entries of every line, and so is the next frame of what they make of it
+unfoldable pub LawfulAlong : Type 0
+LawfulAlong =
+    (s : State) (t : List ℕ) (L : ℕ) → Bytes t → Typed s → lawfulState s ≡ true
+    → let r = after s t L .state in ((lawfulState r ≡ true) × Typed r) × ((lawfulState (nextFrame r .state) ≡ true) × Typed (nextFrame r .state))
+
+-- 4 refuses at the start alone: a line or a whole call that is answered 4 was asked of a state whose own reply it is, none of 256 replies is 4, and no
+-- drawing of a record is answered 4
+pub record FourAtStart : Type 0 where
+  pub alone : (own : Reply) (line : LineNumber) (ula tile out : List ℕ) (s : State) (t : List ℕ) → tracedAnswer own line ula tile out s t .reply ≡ NotLawful → own ≡ NotLawful
+  pub whole : (own : Reply) (ula tile dots replies places : ℕ) (t : List ℕ) → wholeReply ula tile dots replies places own t ≡ NotLawful → own ≡ NotLawful
+  pub carried : (s : State) (t : List ℕ) (L : ℕ) → L < 256 → getD (carriedReplies s t) L 0 ≡ 4 → ⊥
+  pub record-alone : (b : List ℕ) (line : LineNumber) (ula tile out t : List ℕ) → lentTraced line ula tile out b t .reply ≡ NotLawful → ⊥
+  pub record-whole : (b : List ℕ) (ula tile dots replies places : ℕ) (t : List ℕ) → lentWhole ula tile dots replies places b t ≡ NotLawful → ⊥

@@ -1,15 +1,16 @@
--- Rules 9.2, 9.3, 10.15, 10.16 and 17.9: what a drawing by a trace is refused for before any entry is tried. A state's own reply is 4; of a state in a lent record it is
--- 16, 17 or 18.
+-- Rules 9.2, 9.3, 10.15, 10.16, 17.7, 17.9 and 17.13: what a drawing by a trace is refused for. Before any entry is tried a state's own reply is asked, which is 4, or 16, 17 or 18
+-- of a state in a lent record; a line by the entries has none.
 use Prim.Native.Nat.{ℕ}
 use mathlib.Core.List.{List, [], _∷_}
 use mathlib.Core.Bool.{cond, _&&_}
 use lib.Dec.{eqb}
-use Rattle.reply.specs.First.{firstHit}
+use Rattle.reply.specs.First.{firstOf, firstHit}
 use Rattle.reply.specs.declared.Reply.{Reply}
 use Rattle.reply.specs.declared.Reply.the-variants.{Done, BankLength, BufferLength}
 use Rattle.surface.specs.declared.lines.LineNumber.{LineNumber}
-use Rattle.line_replies.specs.Replies.{isBank, lineReply, lengthsReply}
+use Rattle.line_replies.specs.Replies.{isBank, lineReply, lengthsReply, stateReply}
 use Rattle.trace_form.specs.Judged.{traceReply}
+use Rattle.trace_runs.specs.Runs.{Run}
 
 -- one line: 1; 2, 3; the state's own reply; 25, 26
 unfoldable pub askedReply : LineNumber → ℕ → ℕ → ℕ → Reply → List ℕ → Reply
@@ -23,3 +24,7 @@ wholeLengths ula tile dots replies places =
 -- what refuses the whole call: 2, 3; the state's own reply; 25, 26
 unfoldable pub wholeReply : ℕ → ℕ → ℕ → ℕ → ℕ → Reply → List ℕ → Reply
 wholeReply ula tile dots replies places own t = firstHit (wholeLengths ula tile dots replies places ∷ own ∷ traceReply t ∷ [])
+
+-- a line by a run: the refused entry's reply; then what the state is refused for, 6, 7, 5, 8
+unfoldable pub runReply : Run → Reply
+runReply r = firstOf (r .reply) (stateReply (r .state .ula) (r .state .tiles) (r .state .palette) (r .state .ports))

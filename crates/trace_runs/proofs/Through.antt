@@ -1,4 +1,4 @@
--- The laws of runs: entries that are not due change nothing, and where no line falls the entries due at a line are the
+-- The laws of runs: what each entry keeps is kept, entries that are not due change nothing, and where no line falls the entries due at a line are the
 -- first so many, so that a run can be carried from line to line. By induction on the entries.
 use Prim.Native.Nat.{ℕ, zero, suc, _+_, _-_, _≤_, _<_}
 use mathlib.Core.Path.{_≡_, refl, sym, ap, _∙_}
@@ -8,16 +8,38 @@ use mathlib.Core.Logic.{⊎-elim}
 use native.Mathlib.Nat.{le-refl, add-suc, add-zero, eq-or-lt-of-le, le-of-suc-le-suc}
 use native.Mathlib.Numerals.{add-one}
 use native.Mathlib.Omega.{arith}
-use lib.Dec.{leb, ltb}
+use lib.Dec.{leb, ltb, eqb}
 use borrow.Author.Tests.{leb-true, leb-false, le-leb, lt-leb, ltb-true, ltb-false, lt-ltb, le-ltb}
 use Rattle.lists.proofs.Search.{least-found, all-at}
-use Rattle.lists.proofs.Cond.{if-false}
+use Rattle.lists.proofs.Cond.{if-false, either}
+use Rattle.reply.specs.Reply.{isDone}
 use Rattle.state.specs.declared.State.{State}
+use Rattle.register_answers.specs.Rows.{writeBy}
+use Rattle.register_ports.specs.Ports.{portWrites}
+use Rattle.register_tables.specs.Tables.{registerWrites}
 use Rattle.trace_form.specs.declared.entries.Entry.{Entry}
 use Rattle.trace_form.specs.Entries.{entryCount, entryAt, lineAt}
 use Rattle.trace_form.specs.Judged.{lineBefore, rising}
-use Rattle.trace_runs.specs.Runs.{Run, begun, tried, triedIf, through, after}
+use Rattle.trace_runs.specs.Runs.{Run, portNumber, applied, begun, outcome, tried, triedIf, through, after}
 use Rattle.trace_runs.specs.Bounds.{reach, first}
+
+-- ---- what entries keep
+
+-- what each entry of a trace keeps, all that are due keep
+pub through-keeps : (P : Run → Type 0) (p : ℕ → Bool) (t : List ℕ) → ((i : ℕ) (r : Run) → P r → P (tried (entryAt t i) i r)) → (n : ℕ) (r : Run) → P r → P (through p t n r)
+unfolding through
+through-keeps P p t k zero r h = h
+through-keeps P p t k (suc n) r h =
+    let q = through-keeps P p t k n r h in either P (p (lineAt t n)) (tried (entryAt t n) n (through p t n r)) (through p t n r) (k n (through p t n r) q) q
+
+-- an entry that is tried is a write to a register or to a port
+pub tried-by : (P : Run → Type 0) (e : Entry) (i : ℕ) (r : Run) → P (outcome i (writeBy registerWrites (r .state) (e .number) (e .value)))
+    → P (outcome i (writeBy portWrites (r .state) (portNumber (e .number)) (e .value))) → P r → P (tried e i r)
+unfolding tried applied
+tried-by P e i r f g h =
+    either P (isDone (r .reply)) (outcome i (applied (r .state) e)) r
+    (either (λ a. P (outcome i a)) (eqb (e .kind) 0) (writeBy registerWrites (r .state) (e .number) (e .value)) (writeBy portWrites (r .state) (portNumber (e .number)) (e .value)) f g)
+    h
 
 -- ---- entries that are not due
 

@@ -5,10 +5,10 @@ use Rattle.sample_trace.proofs.frames.same_lines.Statement.{statement}
 use Rattle.sample_trace.proofs.frames.same_lines.Tie as tie
 
 abbrev Inv-loop : tie.InvT-loop
-Inv-loop trace dots replies places line₀ line = line ≤ 256
+Inv-loop s trace dots replies places line₀ line = line ≤ 256
 
 abbrev μ-loop : tie.MeasureT-loop
-μ-loop trace dots replies places line₀ line = 256 - line
+μ-loop s trace dots replies places line₀ line = 256 - line
 
 loop-holds : tie.Need-loop-holds Inv-loop μ-loop
 loop-holds c = search needs

@@ -3,7 +3,8 @@ use mathlib.Core.Path.{ap, _∙_}
 use Rattle.reply.specs.First.{firstOf}
 use Rattle.reply.proofs.Done.{done-is, not-done}
 use Rattle.line_replies.proofs.Exits.{drawn, left}
-use Rattle.trace.specs.Lines.{runReply, runDots}
+use Rattle.trace_replies.specs.Replies.{runReply}
+use Rattle.trace.specs.Lines.{runDots}
 use borrow.Author.Needs.{needs}
 use Rattle.trace.proofs.lines.draw_run.Statement.{statement}
 use Rattle.trace.proofs.lines.draw_run.Tie as tie
