@@ -50,10 +50,10 @@ extern "C" {
 #endif
 
 /* The version of this header and of the library that it is delivered with. */
-#define NAREPHON_VERSION "0.7.0"
+#define NAREPHON_VERSION "0.7.1"
 #define NAREPHON_VERSION_MAJOR 0
 #define NAREPHON_VERSION_MINOR 7
-#define NAREPHON_VERSION_PATCH 0
+#define NAREPHON_VERSION_PATCH 1
 
 /* Lengths, in elements. */
 #define NAREPHON_RECORD 2152
@@ -232,7 +232,8 @@ uint8_t narephon_draw_traced(const uint8_t *record, size_t record_len,
  * reply and its place. With the three bytes 0, 1, 1 as `trace`, which has no
  * entries, each line is that of narephon_draw. The record is only read. `dots_len`
  * is NAREPHON_FRAME_DOTS, `replies_len` and `places_len` are NAREPHON_LINES.
- * Replies: 2, 3, 16, 17, 18, 25, 26; what refuses a line is in `replies` alone.
+ * Replies: 2, 3, 16, 17, 18, 25, 26; what refuses a line is in `replies` alone,
+ * each of them 0, 5, 6, 7, 8, 9 or 10: the record is judged once, before entries.
  * A refusal leaves `dots`, `replies` and `places` as they were. */
 uint8_t narephon_draw_carried(const uint8_t *record, size_t record_len,
                               const uint8_t *trace, size_t trace_len,

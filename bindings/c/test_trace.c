@@ -187,8 +187,8 @@ static void refused_lines(void) {
     refused_line("far offset", NAREPHON_FAR_OFFSET);
 }
 
-/* The trace refuses every line and the whole call. */
-static void no_trace(const char *what, uint8_t reply) {
+/* The record or the trace refuses every line and the whole call. */
+static void refused_whole(const char *what, uint8_t reply) {
     same(what, traced(0), reply);
     same(what, place, 0);
     same(what, traced(255), reply);
@@ -199,7 +199,7 @@ static void no_trace(const char *what, uint8_t reply) {
 static void no_trace_with(const char *what, size_t at, uint8_t byte, uint8_t reply) {
     uint8_t own = trace[at];
     trace[at] = byte;
-    no_trace(what, reply);
+    refused_whole(what, reply);
     trace[at] = own;
 }
 
@@ -220,10 +220,21 @@ static void no_traces(void) {
     no_trace_with("port 4, and lines fall", 9, 4, NAREPHON_BAD_TRACE);
     for (trace_len = 10; trace_len > 7; trace_len--) {
         counted();
-        no_trace("an entry cut short", NAREPHON_BAD_TRACE);
+        refused_whole("an entry cut short", NAREPHON_BAD_TRACE);
     }
     no_entries();
-    for (trace_len = 0; trace_len < 3; trace_len++) no_trace("no version", NAREPHON_BAD_TRACE);
+    for (trace_len = 0; trace_len < 3; trace_len++) refused_whole("no version", NAREPHON_BAD_TRACE);
+}
+
+/* The record is judged before its entries: the border 8 in it, which the first would mend, refuses all. */
+static void judged_before_entries(void) {
+    reset();
+    no_entries();
+    entry(0, 1, 0, 1);
+    each_alone("border 1");
+    record[35] = 8;
+    memcpy(kept, record, sizeof record);
+    refused_whole("border 8, then 1", NAREPHON_BAD_FIELD);
 }
 
 /* What is refused from the last of its order on: a line, then all of them. */
@@ -272,6 +283,7 @@ int main(void) {
     refused_entries();
     refused_lines();
     no_traces();
+    judged_before_entries();
     orders();
     return ended("c, trace");
 }

@@ -47,7 +47,7 @@ __all__ = [
     "read_register", "read_scr", "reset", "screen_value", "write_port", "write_register", "write_scr",
 ]
 
-__version__ = "0.7.0"
+__version__ = "0.7.1"
 
 RECORD = 2152
 OLD_RECORD = 2150

@@ -91,8 +91,9 @@ def draw_carried(record: BytesLike, trace: BytesLike, ula: BytesLike, tile: Byte
     """Lines 0 to 255 of a member's screen, drawn one after the other with the state carried along, so that each entry
     of the trace is done once. Each is what ``draw_traced`` gives for it, or the ``Refused`` that it raises.
 
-    Raises ``Refused`` with reply 2, 16, 17, 18, 25 or 26. What refuses a line does not stop later ones; from a refused
-    entry on, every line is refused by it. What is given stays as it was.
+    Raises ``Refused`` with reply 2, 16, 17, 18, 25 or 26. What refuses a line, 5, 6, 7, 8, 9 or 10, does not stop later
+    ones; from a refused entry on, every line is refused by it. The record is judged once, before any entry. What is
+    given stays as it was.
     """
     dots = (ctypes.c_uint16 * FRAME_DOTS)()
     replies = (ctypes.c_uint8 * LINES)()

@@ -148,6 +148,12 @@ class Refusals(Case):
             self.refused_whole(Reply.BANK_LENGTH, b"", bad, ula, tile)
             self.refused(Reply.NO_LINE, narephon.draw_traced, b"", bad, ula, tile, 256)
 
+    def test_judged_before_entries(self) -> None:
+        """The border 8 in the record, which the entry would mend, refuses all."""
+        mended = narephon.make_trace([PortEntry(0, 0xFE, 1)])
+        self.assertEqual(len(narephon.draw_traced(RECORD, mended, BANK, BANK, 0)), narephon.DOTS)
+        self.refused_whole(Reply.BAD_FIELD, replaced(RECORD, 35, 8), mended, BANK, BANK)
+
     def test_arguments(self) -> None:
         for line in (-1, 1 << 32):
             with self.assertRaisesRegex(ValueError, "^line is .* 32 unsigned bits cannot hold$"):

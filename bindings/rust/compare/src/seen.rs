@@ -443,9 +443,9 @@ impl Seen {
     }
 
     /// The replies of all lines, or a refusal of all by buffers of these lengths.
-    pub fn frame(&mut self, reply: u8, lengths: Lengths, lines: &[u8]) {
+    pub fn frame(&mut self, reply: u8, lengths: Lengths, lines: &[u8]) -> Result<(), String> {
         match reply {
-            DONE => self.traces.lines(lines),
+            DONE => self.traces.lines(lines)?,
             WRONG_BUFFER => {
                 if let Some(what) = seen_traces::wrong_buffer(lengths) {
                     self.kind(Call::DrawCarried, what);
@@ -453,6 +453,7 @@ impl Seen {
             }
             _ => {}
         }
+        Ok(())
     }
 
     /// A trace that both calls refused by 25, for one thing.

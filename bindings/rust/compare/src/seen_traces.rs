@@ -33,7 +33,7 @@ const LINE_ORDER: [&[u8]; 11] = [
 /// Those of all lines.
 const FRAME_ORDER: [&[u8]; 5] = [&[2], &[3], &[16, 17, 18], &[25], &[26]];
 
-/// What one of all lines can be answered.
+/// What one of all lines can be answered: 4 is not among them, though the model judges its state at every line.
 const ANSWERS: [u8; 7] = [0, 5, 6, 7, 8, 9, 10];
 
 /// LoRes is on where 6 holds, and off where 5 does.
@@ -230,10 +230,14 @@ impl Traces {
     }
 
     /// What all lines were answered.
-    pub fn lines(&mut self, replies: &[u8]) {
+    pub fn lines(&mut self, replies: &[u8]) -> Result<(), String> {
         for &reply in replies {
+            if !ANSWERS.contains(&reply) {
+                return Err(format!("a line is answered {reply}"));
+            }
             *self.answers.entry(reply).or_default() += 1;
         }
+        Ok(())
     }
 
     pub fn damaged(&mut self, damage: Damage) {

@@ -166,7 +166,7 @@ pub fn draw_carried(
         compared_frame(asked, lengths).map_err(|what| format!("draw_carried: {what}"))?;
     let met = Met::frame(asked.record.items(), asked.lent(), lengths);
     seen.traced(Call::DrawCarried, asked.record.items(), met, reply)?;
-    seen.frame(reply, lengths, &drawn.replies);
+    seen.frame(reply, lengths, &drawn.replies)?;
     Ok((reply, drawn))
 }
 

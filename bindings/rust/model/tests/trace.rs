@@ -3,6 +3,7 @@
 mod common;
 
 use common::{all_at_once, bank, counting, dots, old_record_of, record_of, timex};
+use model::registers::register_exists;
 use model::trace::{
     draw_carried, draw_traced, lent_draw_carried, lent_draw_traced, Frame, Lent, Told, FRAME_DOTS,
     LINES,
@@ -538,5 +539,48 @@ fn lent_records() {
         assert_eq!(one(&bytes, &record, 256, 640).0, (1, 0));
         assert_eq!(one(&bytes, &record, 255, 639).0, (3, 0));
         assert_eq!(all(&bytes, &record, 163_839).0, 3);
+    }
+}
+
+/// The writes that there are, each with every byte, as entries of one line.
+fn every_write() -> Vec<Entry> {
+    let registers = (0..=255).filter(|&number| register_exists(number));
+    let targets = registers.map(|number| (0, number));
+    let targets: Vec<(u8, u8)> = targets.chain((0..4).map(|port| (1, port))).collect();
+    let entry = |(kind, number): (u8, u8)| (0..=255).map(move |byte| [0, kind, number, byte]);
+    targets.into_iter().flat_map(entry).collect()
+}
+
+/// Rule 17.13, and the entries' half of 17.12: after any write a line is drawn or
+/// refused for something else than 4, by which the model judges every line.
+#[test]
+fn lawful_along() {
+    let mut half_sent = counting();
+    (half_sent.held, half_sent.half) = (true, 0xFF);
+    for start in [State::reset(), all_at_once(), half_sent] {
+        for entry in every_write() {
+            let (reply, _) = told(0, &trace(&[entry]), &start);
+            assert!([0, 5, 6, 7, 8, 10].contains(&reply), "{entry:?}: {reply}");
+        }
+    }
+}
+
+/// Rule 17.13: a state that is not lawful is refused, though its entries would make
+/// it lawful.
+#[test]
+fn judged_before_entries() {
+    let mended = trace(&[[0, 1, 0, 1], [0, 0, 0x42, 7]]);
+    assert_eq!(told(0, &mended, &counting()), (0, 0));
+    let mut border = counting();
+    border.border = 8;
+    let mut mask = counting();
+    mask.ink_mask = 8;
+    for state in [border, mask] {
+        for line in [0, 255] {
+            assert_eq!(told(line, &mended, &state), (4, 0));
+        }
+        let (reply, drawn) = carried(&mended, &state);
+        assert_eq!(reply, 4);
+        assert!(drawn.untouched());
     }
 }

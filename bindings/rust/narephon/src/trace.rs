@@ -119,8 +119,9 @@ pub fn draw_traced(
 /// carried along, so that each entry of the trace is done once. It gives the answer to each line: what [`draw_traced`] gives
 /// for it, and its part of `dots` is what that draws.
 ///
-/// Refused by 2, 3, 16, 17, 18, 25 or 26, it leaves `dots` as it was. A line that is refused leaves its part, and later ones
-/// are drawn; from a refused entry on, every line is refused by it.
+/// Refused by 2, 3, 16, 17, 18, 25 or 26, it leaves `dots` as it was. A line that is refused, by 5, 6, 7, 8, 9 or 10, leaves
+/// its part, and later ones are drawn; from a refused entry on, every line is refused by it. The record is judged once, before
+/// any entry.
 ///
 /// ```
 /// let (record, bank) = (narephon::reset(), [0; narephon::BANK]);

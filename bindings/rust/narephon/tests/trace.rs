@@ -217,6 +217,21 @@ fn no_traces() {
     }
 }
 
+/// The record is judged before its entries: the border 8 in it, which the first would mend, refuses all.
+#[test]
+fn judged_before_entries() {
+    let mut record = narephon::reset().to_vec();
+    let mended = trace(&[port(0, 0xFE, 1)]);
+    assert_eq!(traced(&record, &mended, 0).0, Ok(()));
+    record[35] = 8;
+    for line in [0, 255] {
+        let refused = Err((Reply::BadField, None));
+        assert_eq!(traced(&record, &mended, line).0, refused);
+    }
+    let left = vec![MARK; FRAME_DOTS];
+    assert_eq!(carried(&record, &mended), (Err(Reply::BadField), left));
+}
+
 /// From the last of the order on: each step adds what is refused before all that was wrong already.
 #[test]
 fn orders() {
