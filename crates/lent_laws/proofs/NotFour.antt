@@ -2,7 +2,6 @@
 use Prim.Native.Nat.{ℕ}
 use mathlib.Core.Path.{refl}
 use mathlib.Core.List.{List}
-use native.Mathlib.Omega.{arith}
 use lib.ListN.{length}
 use Rattle.lists.proofs.Cond.{either}
 use Rattle.reply.specs.declared.Reply.the-variants.{WrongCount, WrongVersion, BadField}
@@ -17,9 +16,9 @@ unfolding judged
 read-not-four v b =
     either (λ (j : Judgement). NotFour (j .reply)) (counted b) (judgedVersion v b) (told WrongCount countPlace)
     (either (λ (j : Judgement). NotFour (j .reply)) (versioned v b) (judgedFields v b) (told WrongVersion versionPlace)
-    (either (λ (j : Judgement). NotFour (j .reply)) (sound v b) passed (told BadField (firstBad v b)) done-not-four (other BadField 18 refl (λ z. omega arith)))
-    (other WrongVersion 17 refl (λ z. omega arith)))
-    (other WrongCount 16 refl (λ z. omega arith))
+    (either (λ (j : Judgement). NotFour (j .reply)) (sound v b) passed (told BadField (firstBad v b)) done-not-four (other BadField refl))
+    (other WrongVersion refl))
+    (other WrongCount refl)
 
 pub record-not-four : (b : List ℕ) → NotFour (readRecord b .reply)
 unfolding readRecord

@@ -41,7 +41,7 @@ use Rattle.register_laws.proofs.Turns.{four, restart-set, restart-clear
 -- ---- every write
 
 no-register : NotFour NoRegister
-no-register = other NoRegister 9 refl (λ z. omega arith)
+no-register = other NoRegister refl
 
 module _ (rows : List WriteRow) (sound : Each (λ r. Sound (r .effect)) rows) (s : State) (n v : ℕ) where
   written-parts : v < 256 → Parts s → Parts (writeLawful s (writeBy rows s n v) .state)

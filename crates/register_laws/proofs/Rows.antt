@@ -3,7 +3,6 @@ use mathlib.Core.Path.{_≡_, refl, _∙_}
 use mathlib.Core.List.{List, [], _∷_}
 use mathlib.Core.Bool.{Bool, true, false, cond}
 use Prim.Native.Nat.{ℕ, _<_}
-use native.Mathlib.Omega.{arith}
 use lib.Dec.{eqb}
 use borrow.Author.Tests.{eqb-true, ne-eqb}
 use Rattle.lists.proofs.Cond.{if-false, either}
@@ -43,7 +42,7 @@ judged ok t k = record { kept = λ s v b p. keep (ok v) (t s v) s (λ e. k s v b
 
     fits-not-four : (b : Bool) (x y : State) → NotFour (ifFits b x y .reply)
     fits-not-four true x y = done-not-four
-    fits-not-four false x y = other OutOfBounds 10 refl (λ z. omega arith)
+    fits-not-four false x y = other OutOfBounds refl
 
 -- the same of a write that changes one group alone
 module _ {G : Type 0} {get : State → G} {put : State → G → State} {lawful : G → Bool} {Types : G → Type 0} (group : Group G get put lawful Types) where

@@ -1,8 +1,8 @@
 -- Replies that are not 4, since they have another number.
-use Prim.Native.Nat.{ℕ}
 use mathlib.Core.Path.{_≡_, refl, sym, ap, _∙_}
 use mathlib.Core.Bool.{Bool, true, false, cond}
-use native.Mathlib.Omega.{arith}
+use lib.Dec.{eqb}
+use borrow.Author.Tests.{eqb-false}
 use Rattle.reply.specs.Reply.{replyNumber}
 use Rattle.reply.specs.declared.Reply.{Reply}
 use Rattle.reply.specs.declared.Reply.the-variants.{Done, NotLawful}
@@ -10,14 +10,14 @@ use Rattle.reply.specs.declared.Reply.the-variants.{Done, NotLawful}
 abbrev pub NotFour : Reply → Type 0
 NotFour r = r ≡ NotLawful → ⊥
 
-pub other : (r : Reply) (n : ℕ) → replyNumber r ≡ n → (n ≡ 4 → ⊥) → NotFour r
-other r n e z d = z (sym e ∙ ap replyNumber d)
+pub other : (r : Reply) → eqb (replyNumber r) 4 ≡ false → NotFour r
+other r e d = eqb-false (replyNumber r) 4 e (ap replyNumber d)
 
 pub same-not-four : (q r : Reply) → q ≡ r → NotFour r → NotFour q
 same-not-four q r e h d = h (sym e ∙ d)
 
 pub done-not-four : NotFour Done
-done-not-four = other Done 0 refl (λ z. omega arith)
+done-not-four = other Done refl
 
 -- a test, and a test after another, that refuse by other numbers
 pub test-not-four : (t : Bool) (q r : Reply) → NotFour q → NotFour r → NotFour (cond t q r)

@@ -207,13 +207,13 @@ screenStored b bank file y z e =
     ∙ ap (λ (a : RecordRead). readWith passed (stateRead (a .state) file)) (sym own)
 
 bank-not-four : (n : ℕ) → NotFour (bankReply n)
-bank-not-four n = piece-not-four (isBank n) BankLength (other BankLength 2 refl (λ z. omega arith))
+bank-not-four n = piece-not-four (isBank n) BankLength (other BankLength refl)
 
 form-not-four : (m : Mode) → NotFour (formReply m)
-form-not-four m = piece-not-four (hasForm m) NoForm (other NoForm 14 refl (λ z. omega arith))
+form-not-four m = piece-not-four (hasForm m) NoForm (other NoForm refl)
 
 file-not-four : (n : ℕ) → NotFour (fileReply n)
-file-not-four n = piece-not-four (eqb n fileLength) BufferLength (other BufferLength 3 refl (λ z. omega arith))
+file-not-four n = piece-not-four (eqb n fileLength) BufferLength (other BufferLength refl)
 
 pub screenNeverNotLawful : ScreenNeverNotLawful
 unfolding readJudged writeJudged

@@ -3,7 +3,6 @@ use Prim.Native.Nat.{ℕ}
 use mathlib.Core.Path.{_≡_, refl}
 use mathlib.Core.List.{List}
 use mathlib.Core.Bool.{_&&_}
-use native.Mathlib.Omega.{arith}
 use lib.Dec.{eqb}
 use Rattle.reply.specs.declared.Reply.{Reply}
 use Rattle.reply.specs.declared.Reply.the-variants.{BankLength, BufferLength, NotLawful, BadTrace, LinesFall}
@@ -17,13 +16,13 @@ use Rattle.trace_replies.specs.Replies.{askedReply, wholeLengths, wholeReply}
 trace-not-four : (t : List ℕ) → NotFour (traceReply t)
 unfolding traceReply
 trace-not-four t =
-    two-not-four (headed t && allKnown t) (rising t) LinesFall BadTrace (other LinesFall 26 refl (λ z. omega arith)) (other BadTrace 25 refl (λ z. omega arith))
+    two-not-four (headed t && allKnown t) (rising t) LinesFall BadTrace (other LinesFall refl) (other BadTrace refl)
 
 whole-lengths-not-four : (ula tile dots replies places : ℕ) → NotFour (wholeLengths ula tile dots replies places)
 unfolding wholeLengths
 whole-lengths-not-four ula tile dots replies places =
     two-not-four (eqb ula 16384 && eqb tile 16384) (eqb dots 163840 && eqb replies 256 && eqb places 256) BufferLength BankLength
-    (other BufferLength 3 refl (λ z. omega arith)) (other BankLength 2 refl (λ z. omega arith))
+    (other BufferLength refl) (other BankLength refl)
 
 -- a reply that is 4 only where a state's own is
 abbrev OwnFour : Reply → Reply → Type 0
