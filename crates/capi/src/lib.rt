@@ -1,5 +1,7 @@
 // The calls for C, Rust and Python that change, move and read a record, and those on screen files: numbers and slices only, a state lent as its record. Each answers the
 // reply's number.
+#![tactic(auto)]
+
 mod changes;
 mod moves;
 mod readings;

@@ -1,4 +1,6 @@
 // The calls on a desk for C, Rust and Python: numbers and slices only, as those of `capi` are. Each answers the reply's number.
+#![tactic(auto)]
+
 mod calls;
 
 pub use calls::{

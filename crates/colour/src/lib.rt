@@ -1,4 +1,6 @@
 // Nine-bit colours RRRGGGBBB: from a byte, from a ULAplus byte, and as a value of 24 bits for a screen.
+#![tactic(auto)]
+
 mod bytes;
 mod screen;
 mod table;

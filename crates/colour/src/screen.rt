@@ -6,7 +6,7 @@ use crate::table::SCREEN;
 use reply::Reply;
 
 // A colour's value for a screen, or the reply that refuses it.
-#[derive(Drop)]
+#[derive(Clone, Copy)]
 pub struct Screen {
     pub reply: Reply,
     pub value: u32,

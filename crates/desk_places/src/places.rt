@@ -9,7 +9,7 @@ use desk_seats::SEATS;
 use reply::Reply;
 
 // Where a member's call goes, or what refuses it.
-#[derive(Drop)]
+#[derive(Clone, Copy)]
 pub enum Place {
     At(usize),
     Refused(Reply),

@@ -1,4 +1,6 @@
 // One seat of a desk: whether it is held, by whom, and with what; and one taken.
+#![tactic(auto)]
+
 mod seats;
 mod taking;
 

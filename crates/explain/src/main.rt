@@ -1,5 +1,7 @@
 // explain RECORD: what is wrong with a record, in a line on standard output that names the byte, what it is and what it has to be; of a
 // record that is good its version. What keeps the file from being read is said on standard error.
+#![tactic(auto)]
+
 use host::files::{Read, read_argument};
 use host::records::{OLD_RECORD, RECORD_FILE};
 use host::{complaints, report};

@@ -1,4 +1,6 @@
 // The next frame of a state, and what frame after frame brings back.
+#![tactic(auto)]
+
 ghost use Rattle.std.specs.Prelude.{◌≡◌};
 ghost use Rattle.frame.specs.Frame.{advanced, next_frame};
 

@@ -6,7 +6,7 @@ ghost use Rattle.host.specs.Read.{within};
 use crate::complaints;
 
 // How many bytes of a file are in the buffer, or that it cannot be opened.
-#[derive(Drop)]
+#[derive(Clone, Copy)]
 pub enum Read {
     Bytes(usize),
     Missing,

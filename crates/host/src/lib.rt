@@ -1,5 +1,7 @@
 // What the programs share: whole files by name, the lengths of records, words and numbers on standard output, complaints on standard
 // error, marked buffers.
+#![tactic(auto)]
+
 pub mod complaints;
 pub mod files;
 pub mod marks;

@@ -1,4 +1,6 @@
 // The dots of the lent layers with those of a composed line: what a lent line may hold, the six orders, priority.
+#![tactic(auto)]
+
 mod dots;
 mod lines;
 mod numbers;

@@ -12,7 +12,7 @@ use reply::{Reply, number};
 use state::{Answer, State};
 
 // What can be done to a state: the next frame, a write of a register (number, value), a write of a port.
-#[derive(Drop)]
+#[derive(Clone, Copy)]
 pub enum Change {
     NextFrame,
     Register(u8, u8),

@@ -8,7 +8,7 @@ use reply::number;
 use state::State;
 
 // What can be asked of a state: a register or a port, by number.
-#[derive(Drop)]
+#[derive(Clone, Copy)]
 pub enum Query {
     Register(u8),
     Port(u16),

@@ -1,5 +1,7 @@
 // Screen files by a lent record: read into the state in the bytes lent, and written from it. Bytes that are no record are refused by 16,
 // 17 or 18, which stand where 4 stands for a state.
+#![tactic(auto)]
+
 mod reading;
 mod writing;
 

@@ -16,7 +16,7 @@ use scr_replies::read_reply;
 use state::State;
 
 // What reading answers: the reply, and the place of the colours in the file, 0 where there are none.
-#[derive(Drop)]
+#[derive(Clone, Copy)]
 pub struct ScreenRead {
     pub reply: Reply,
     pub colours: usize,

@@ -1,4 +1,6 @@
 // The line drawer: the ULA's row and the tilemap's composed, the fallback over them, and the refusals in their order.
+#![tactic(auto)]
+
 mod drawer;
 mod lines;
 mod parts;

@@ -7,7 +7,7 @@ use register_parts::Registers;
 use state::{Palette, Ports, Tiles, Ula};
 
 // All that a line shows of a state but the two palettes: small enough to be handed over by value at each line.
-#[derive(Drop)]
+#[derive(Clone, Copy)]
 pub struct Shown {
     pub ula: Ula,
     pub palette: Palette,

@@ -1,4 +1,6 @@
 // What a drawing is refused for, in its order: the pieces of `line_replies`, and what is not lawful among them.
+#![tactic(auto)]
+
 ghost use Rattle.std.specs.Prelude.{◌≡◌};
 ghost use Rattle.line_replies.specs.Replies.{draw_reply};
 

@@ -1,5 +1,7 @@
 // Lines by their sums: the Adler-32 of a line's dots, by which drawn lines are compared with outside pictures, and whole
 // pictures printed as the sums of their lines.
+#![tactic(auto)]
+
 mod adler;
 mod pictures;
 

@@ -1,4 +1,6 @@
 // Lists that several crates speak of, with their laws; bytes put into a buffer, a buffer made all 0, and a byte as a wider number.
+#![tactic(auto)]
+
 mod placing;
 
 ghost use Rattle.std.specs.Prelude.{◌≡◌, ◌<◌};

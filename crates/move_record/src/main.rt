@@ -1,6 +1,8 @@
 // move_record up RECORD: an old record in version 2, which draws what it drew; move_record back RECORD: a record of version 2 in
 // version 1, where that says all of it. The moved record goes to standard output; what is wrong is said on standard error, and
 // nothing is written then.
+#![tactic(auto)]
+
 use host::complaints;
 use host::files::{Read, read_argument};
 use host::records::{OLD_RECORD, RECORD, RECORD_FILE};

@@ -1,4 +1,6 @@
 // The packing program: a picture on standard input, and one line, `tiles N` or `refused N`.
+#![tactic(auto)]
+
 use host::report;
 use libc::STDIN_FILENO;
 

@@ -11,7 +11,7 @@ use pack_cells::mark;
 use pack_turns::{transpose, turn_marked};
 
 // The definition that draws a cell, the turn by which it does, and the cell's mark.
-#[derive(Drop)]
+#[derive(Clone, Copy)]
 pub struct Match {
     pub tile: usize,
     pub turn: usize,

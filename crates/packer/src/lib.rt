@@ -1,5 +1,7 @@
 // The tile packer: the map and the definitions of a picture, and the fewest tiles that draw it. `pack` and `fewest` ask for nothing;
 // the functions of the module ask for what `judge` has established.
+#![tactic(auto)]
+
 ghost use Rattle.std.specs.Prelude.{◌≡◌};
 ghost use Rattle.pack_rule.specs.Answer.{judged, answered};
 ghost use Rattle.pack_rule.specs.Packs.{Packs, CountsFewest};

@@ -1,4 +1,6 @@
 // A drawn line as bytes of a picture file: a binary PPM of 640 by 512, each line of the surface twice.
+#![tactic(auto)]
+
 mod head;
 mod pixels;
 

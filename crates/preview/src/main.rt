@@ -2,6 +2,8 @@
 // ULA-BANK TILE-BANK: a member's state and banks; preview RECORD ULA-BANK TILE-BANK TRACE: the same, with each line drawn by the writes
 // of a trace up to it; with no argument the example screen. The whole picture goes to standard output as a binary PPM. Nothing is
 // written there before every line is known to draw; what is wrong is said on standard error.
+#![tactic(auto)]
+
 
 mod banks;
 mod complaints;

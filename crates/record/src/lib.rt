@@ -1,4 +1,6 @@
 // The stored record: a lawful state as bytes, and back.
+#![tactic(auto)]
+
 mod reading;
 mod writing;
 

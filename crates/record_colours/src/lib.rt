@@ -1,5 +1,7 @@
 // The palettes of a record: 256 colours, two bytes a colour, high first, read, judged and put. Every call here asks for bytes that
 // reach as far as the palette does.
+#![tactic(auto)]
+
 mod reading;
 mod writing;
 

@@ -1,4 +1,6 @@
 // What stands at a place of a record, for people: its name and its bound, by one table in the order of the layout.
+#![tactic(auto)]
+
 mod parts;
 mod table;
 

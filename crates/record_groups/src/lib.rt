@@ -1,5 +1,7 @@
 // The registers of the state in a record, read where they stand: group by group, the clips and the ULAplus registers. Every call
 // here asks for bytes that reach as far as what it reads.
+#![tactic(auto)]
+
 mod groups;
 mod rows;
 

@@ -1,24 +1,26 @@
 // The layout of a stored record: definitions of its bytes, of the state in them and of what they are refused for, and the laws that tie
 // these together. It has no code but the types: `record_stages`, `record_parts` and `record` are proved against it.
+#![tactic(auto)]
+
 use reply::Reply;
 use state::State;
 
 // The versions of a record.
-#[derive(Drop)]
+#[derive(Clone, Copy)]
 pub enum Version {
     Version1,
     Version2,
 }
 
 // What bytes are refused for as a record, and the place that tells where, counted from the front; 0 where nothing is told.
-#[derive(Drop)]
+#[derive(Clone, Copy)]
 pub struct Judgement {
     pub reply: Reply,
     pub place: usize,
 }
 
 // What reading bytes answers: their judgement, and the state in them.
-#[derive(Drop)]
+#[derive(Clone, Copy)]
 pub struct RecordRead {
     pub reply: Reply,
     pub place: usize,

@@ -1,4 +1,6 @@
 // Where the parts of a stored record stand, in code: each place by name, what a version adds to it, and the palettes that a line shows.
+#![tactic(auto)]
+
 pub mod places;
 mod shown;
 mod versions;

@@ -1,4 +1,6 @@
 // What a write and a read answer: done, or refused with everything as it was. Writes answer on the parts of a state.
+#![tactic(auto)]
+
 ghost use Rattle.std.specs.Prelude.{◌≡◌};
 ghost use Rattle.reply.specs.declared.Reply.TheVariants.{NoRegister, OutOfBounds};
 ghost use Rattle.state.specs.Answer.{done, refused};
@@ -13,7 +15,7 @@ use reply::Reply;
 use state::{Answer, State};
 
 // What a read answers: its reply and the byte, 0 where it is refused.
-#[derive(Drop)]
+#[derive(Clone, Copy)]
 pub struct Reading {
     pub reply: Reply,
     pub value: u8,

@@ -1,5 +1,7 @@
 // The bounds of the registers, as tests of one byte: a lawful state, a write and a stored record all go by these. The tests of a
 // group of registers and of a state are in `state`.
+#![tactic(auto)]
+
 ghost use Rattle.std.specs.Prelude.{◌≡◌};
 ghost use Rattle.register_bounds.specs.Bounds.{offset_yfits, ula_control_fits, is_mask, choice_of, is_choice, half_fits, tile_transparent_fits, tile_control_fits, x_high_fits, base_fits, turn_fits, border_fits, select_fits};
 

@@ -1,4 +1,6 @@
 // The clips of the ULA and of the tilemap, written and read a coordinate at a time, and their turns.
+#![tactic(auto)]
+
 ghost use Rattle.std.specs.Prelude.{◌≡◌};
 ghost use Rattle.register_parts.specs.Parts.{bare, written_of};
 ghost use Rattle.register_clips.specs.Clips.{ula_clip_written, tile_clip_written, restarted, turns_written, clip_next, turns_read};

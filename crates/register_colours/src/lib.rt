@@ -1,4 +1,6 @@
 // A colour of the four palettes where the palette registers point, read and stored.
+#![tactic(auto)]
+
 ghost use Rattle.std.specs.Prelude.{◌≡◌};
 ghost use Rattle.register_bounds.specs.Bounds.{choice_of};
 ghost use Rattle.register_parts.specs.Parts.{state_with};

@@ -1,4 +1,6 @@
 // The four palettes, written and read through $40 to $44.
+#![tactic(auto)]
+
 mod colours;
 mod control;
 

@@ -1,5 +1,7 @@
 // A state in parts: all its registers, small enough to pass by value, and its four palettes, which a call that writes many registers lends and
 // does not copy.
+#![tactic(auto)]
+
 ghost use Rattle.std.specs.Prelude.{◌≡◌};
 ghost use Rattle.register_parts.specs.Parts.{registers_of, answer_with};
 
@@ -7,7 +9,7 @@ use reply::Reply;
 use state::{Answer, Palette, Ports, State, Tiles, Turns, Ula};
 
 // All of a state but its palettes.
-#[derive(Drop)]
+#[derive(Clone, Copy)]
 pub struct Registers {
     pub ula: Ula,
     pub tiles: Tiles,
@@ -21,7 +23,7 @@ pub struct Registers {
 }
 
 // What a write to the parts of a state answers: its reply and the registers afterwards.
-#[derive(Drop)]
+#[derive(Clone, Copy)]
 pub struct Written {
     pub reply: Reply,
     pub registers: Registers,

@@ -1,4 +1,6 @@
 // The four ports, each at its exact 16-bit number.
+#![tactic(auto)]
+
 ghost use Rattle.std.specs.Prelude.{◌≡◌};
 ghost use Rattle.register_answers.specs.Rows.{write_by, read_by};
 ghost use Rattle.register_parts.specs.Parts.{bare, written_of};

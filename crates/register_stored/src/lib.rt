@@ -1,4 +1,6 @@
 // Writes to the registers that are stored as bytes: what each one keeps and what it refuses.
+#![tactic(auto)]
+
 mod tilemap;
 mod ula;
 

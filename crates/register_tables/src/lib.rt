@@ -1,5 +1,7 @@
 // The registers by number: what each is written by and what each reads as. Writes go over the parts of a state, so that a call that makes many
 // copies none; those on a whole state are made of them.
+#![tactic(auto)]
+
 ghost use Rattle.std.specs.Prelude.{◌≡◌};
 ghost use Rattle.register_parts.specs.Parts.{state_with, answer_with};
 ghost use Rattle.register_answers.specs.Rows.{write_by, read_by};

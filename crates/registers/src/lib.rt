@@ -1,4 +1,6 @@
 // The calls by which a member's state is written and read, by register number and by port.
+#![tactic(auto)]
+
 mod port;
 mod read;
 mod write;

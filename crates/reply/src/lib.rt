@@ -1,4 +1,6 @@
 // The answers of every call: a case for each reply of section 9 of the rules, and the first that refuses.
+#![tactic(auto)]
+
 ghost use Rattle.std.specs.Prelude.{◌≡◌};
 ghost use Rattle.reply.specs.Reply.{reply_number};
 
@@ -8,7 +10,7 @@ mod lengths;
 pub use first::first_of;
 pub use lengths::length_reply;
 
-#[derive(Drop)]
+#[derive(Clone, Copy)]
 pub enum Reply {
     Done,
     NoLine,

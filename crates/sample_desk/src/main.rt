@@ -1,5 +1,7 @@
 // A desk call by call: two members whose numbers have the same low byte each send half a colour and then the other half; what is refused,
 // and before what; a full desk; and desks that are not well formed. After a reply stands what was read or drawn.
+#![tactic(auto)]
+
 mod asked;
 mod damaged;
 

@@ -1,5 +1,7 @@
 // Draws what the outside cases do not reach: the stored sums are those of `bindings/rust/model`, an independent implementation.
 // README.md has what each record shows.
+#![tactic(auto)]
+
 use line_sums::draw_case;
 
 // A record over one bank, which serves as both.

@@ -1,5 +1,7 @@
 // Lines with lent layers: the six orders, over a composed line that shows and over one that is transparent; what each number of a lent
 // line does; and what is refused by 3, 4, 19 and 20. After a reply stand dots of the line, 65535 where it is as it was.
+#![tactic(auto)]
+
 mod asked;
 
 use asked::{ask_lengths, ask_number, ask_order};

@@ -1,5 +1,7 @@
 // Records moved up and back into marked targets: the reply, its place, and what is in the target then. old.rec is of version 1 and new.rec the
 // same moved up, both written out by hand; other.rec is of version 2, with values of $26 and $27 that are not those of $32 and $33.
+#![tactic(auto)]
+
 use host::files::bytes_of;
 use host::marks::{MARK, untouched};
 use host::records::{OLD_RECORD, RECORD, RECORD_FILE};

@@ -1,6 +1,8 @@
 // Reads records of both versions and writes them back, prints the fields of three that were written out by hand, then damages one
 // byte or the length of these and prints the replies. own3.rec is own1.rec in version 2 with other values of $26 and $27, and
 // own4.rec is own2.rec moved up.
+#![tactic(auto)]
+
 mod damaged;
 mod fields;
 mod judged;

@@ -1,6 +1,8 @@
 // The samples (section 11 of the rules) that are not starred, each refusal of a drawing, and the order of the refusals. After the
 // reply stand the first and the last number of the lent line, 65535 where it is as it was. A state is given by its writes: a register's
 // number or a port's, high byte first, and a value.
+#![tactic(auto)]
+
 mod asked;
 mod states;
 

@@ -1,5 +1,7 @@
 // Runs the script `script`, from the reset state on, and prints what each entry is answered. An entry is four bytes: its
 // kind, a number, high first, and a value.
+#![tactic(auto)]
+
 use host::files::{Read, read_file};
 use host::report;
 use host::report::word;

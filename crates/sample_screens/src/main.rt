@@ -1,5 +1,7 @@
 // Screen files read and written: each of the six forms into a reset state and an empty bank, and into a state and a bank that are
 // marked; then what is refused, and in which order. README.md says what the lines show.
+#![tactic(auto)]
+
 ghost use Rattle.std.specs.Prelude.{◌≤◌};
 
 mod readings;

@@ -1,5 +1,7 @@
 // Four pictures packed and drawn by the tilemap's rule at every pixel, and the sheets that rgbgfx packed for the same
 // pictures drawn likewise. rgbgfx knows mirrors and no rotation.
+#![tactic(auto)]
+
 mod drawn;
 mod named;
 

@@ -3,7 +3,7 @@ use host::report;
 use state::State;
 
 // A field of one byte.
-#[derive(Drop)]
+#[derive(Clone, Copy)]
 enum Field {
     LoresY,
     UlaX,
@@ -24,7 +24,7 @@ enum Field {
 }
 
 // One of the four palettes.
-#[derive(Drop)]
+#[derive(Clone, Copy)]
 enum Table {
     UlaFirst,
     UlaSecond,

@@ -1,4 +1,6 @@
 // Screen values of a dozen colours, the reset state's fields, and what is lawful at each bound's edge and one past it.
+#![tactic(auto)]
+
 mod edges;
 mod fields;
 mod judged;

@@ -1,5 +1,7 @@
 // Lines drawn by traces: none with entries, stamps, entries that are refused, states that are refused for some lines, traces that are no
 // traces, a state that is not lawful; and all lines carried, which are the lines asked for alone. After a reply stand the place and the first dot.
+#![tactic(auto)]
+
 mod asked;
 mod frames;
 mod traces;

@@ -1,5 +1,7 @@
 // Draws the cases of an outside emulator, which are numbered 00, 02, .. 38, and four of them again over two different banks: the
 // stored sums are that emulator's, one for each line of each case. README.md has what the cases show.
+#![tactic(auto)]
+
 use line_sums::draw_case;
 
 // The record of a number, and its bank, which serves as both.

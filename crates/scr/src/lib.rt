@@ -1,4 +1,6 @@
 // Screen files, read into a bank and a state and written from them.
+#![tactic(auto)]
+
 mod reading;
 mod writing;
 

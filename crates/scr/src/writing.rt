@@ -16,7 +16,7 @@ use state::{State, lawful_reply};
 use ula_mode::{Mode, mode_of};
 
 // What writing answers: the reply, and the file's length, 0 where it is refused.
-#[derive(Drop)]
+#[derive(Clone, Copy)]
 pub struct Written {
     pub reply: Reply,
     pub length: usize,

@@ -6,7 +6,7 @@ use crate::forms::row_of;
 use ula_mode::Mode;
 
 // The mode whose form a file has, or none (`Mode::Missing`), and whether its last 64 bytes are colours.
-#[derive(Drop)]
+#[derive(Clone, Copy)]
 pub struct Shape {
     pub mode: Mode,
     pub colours: bool,

@@ -8,7 +8,7 @@ use ula_mode::Mode;
 
 // A form in numbers: the low three bits of port $FF, how many bytes of the bank it has from $0000 on and from $2000 on, and how
 // many of the port follow them. A mode without a form has none.
-#[derive(Drop)]
+#[derive(Clone, Copy)]
 pub struct Row {
     pub value: u8,
     pub first: usize,

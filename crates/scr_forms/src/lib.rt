@@ -1,4 +1,6 @@
 // The forms of a screen file: what of a bank each has, and which one a file has.
+#![tactic(auto)]
+
 mod files;
 mod forms;
 

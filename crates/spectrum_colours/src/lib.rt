@@ -1,5 +1,7 @@
 // The standard colours of a Spectrum: sixteen eight-bit colours, the ULA palette painted with them by register writes, and a
 // state that shows them all.
+#![tactic(auto)]
+
 ghost use Rattle.std.specs.Prelude.{◌≡◌};
 ghost use Rattle.spectrum_colours.specs.Colours.{after_write, zx_colour, ula_painted, standard_state};
 

@@ -1,4 +1,6 @@
 // A member's whole video state by value: its registers, what is lawful, and reset.
+#![tactic(auto)]
+
 mod bounds;
 mod initial;
 
@@ -7,7 +9,7 @@ pub use initial::reset;
 use reply::Reply;
 
 // The ULA's registers.
-#[derive(Drop)]
+#[derive(Clone, Copy)]
 pub struct Ula {
     // $14
     pub transparent: u8,
@@ -30,7 +32,7 @@ pub struct Ula {
 }
 
 // The tilemap's registers.
-#[derive(Drop)]
+#[derive(Clone, Copy)]
 pub struct Tiles {
     // $4C
     pub transparent: u8,
@@ -51,7 +53,7 @@ pub struct Tiles {
 }
 
 // The registers by which colours are written. `half` is the first byte of a nine-bit colour, while it is held.
-#[derive(Drop)]
+#[derive(Clone, Copy)]
 pub struct Palette {
     // $43
     pub control: u8,
@@ -64,13 +66,13 @@ pub struct Palette {
 }
 
 // Which coordinate of each clip is written next.
-#[derive(Drop)]
+#[derive(Clone, Copy)]
 pub struct Turns {
     pub ula: u8,
     pub tiles: u8,
 }
 
-#[derive(Drop)]
+#[derive(Clone, Copy)]
 pub struct Ports {
     // $FE
     pub border: u8,
@@ -82,7 +84,7 @@ pub struct Ports {
     pub plus: bool,
 }
 
-#[derive(Drop)]
+#[derive(Clone, Copy)]
 pub struct State {
     pub ula: Ula,
     pub tiles: Tiles,
@@ -102,7 +104,7 @@ pub struct State {
 }
 
 // What a call that changes a state answers: its reply and the whole state afterwards.
-#[derive(Drop)]
+#[derive(Clone, Copy)]
 pub struct Answer {
     pub reply: Reply,
     pub state: State,

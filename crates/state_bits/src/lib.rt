@@ -1,4 +1,6 @@
 // What the bits of the registers mean: which bit turns what on, and the numbers that two bytes or a width make.
+#![tactic(auto)]
+
 mod bits;
 
 pub use bits::{

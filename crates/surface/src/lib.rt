@@ -1,4 +1,6 @@
 // What is drawn: the lines of the surface and the dots of a line, before any layer.
+#![tactic(auto)]
+
 mod dots;
 mod lines;
 

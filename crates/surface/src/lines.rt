@@ -3,7 +3,7 @@ ghost use Rattle.std.specs.Prelude.{◌≡◌};
 ghost use Rattle.surface.specs.Lines.{is_line, in_display, display_line};
 
 // A line of the surface, counted from the top; any number, until a call has judged it.
-#[derive(Drop)]
+#[derive(Clone, Copy)]
 pub struct LineNumber(pub usize);
 
 pub fn is_line(l: LineNumber) -> bool

@@ -7,7 +7,7 @@ ghost use Rattle.tilemap_entries.specs.Bounds.{SetupBounds, EntryBounds};
 use lists::usize_of;
 
 // How a tilemap lies in its bank and on the surface.
-#[derive(Drop)]
+#[derive(Clone, Copy)]
 pub struct TileSetup {
     // 80 columns, else 40
     pub columns80: bool,
@@ -26,7 +26,7 @@ pub struct TileSetup {
 }
 
 // The two bytes of a cell's entry.
-#[derive(Drop)]
+#[derive(Clone, Copy)]
 pub struct Entry {
     pub low: usize,
     pub high: usize,

@@ -9,11 +9,11 @@ use surface::LineNumber;
 use tilemap_entries::TileSetup;
 
 // A clip coordinate that counts pairs of pixels.
-#[derive(Drop)]
+#[derive(Clone, Copy)]
 pub struct PairCount(pub u8);
 
 // What of a line the clip shows, in pixels, both ends inside; nothing where not on.
-#[derive(Drop)]
+#[derive(Clone, Copy)]
 pub struct Window {
     pub on: bool,
     pub left: usize,

@@ -3,7 +3,7 @@ ghost use Rattle.std.specs.Prelude.{◌≡◌, ◌<◌};
 ghost use Rattle.tilemap_turns.specs.Turns.{mirrored, column_of, row_of, half_of};
 
 // A pixel of a definition.
-#[derive(Drop)]
+#[derive(Clone, Copy)]
 pub struct Spot {
     pub column: usize,
     pub row: usize,

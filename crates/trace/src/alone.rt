@@ -15,7 +15,7 @@ use trace_replies::asked_reply;
 use trace_runs::{after_line, begin};
 
 // What a line is answered: its reply, and the place of a refused entry, 0 with every other reply.
-#[derive(Drop)]
+#[derive(Clone, Copy)]
 pub struct Traced {
     pub reply: Reply,
     pub place: u16,

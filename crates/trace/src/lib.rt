@@ -1,4 +1,6 @@
 // Drawing by a recorded trace of register and port writes: one line, or lines 0 to 255 with the state carried along.
+#![tactic(auto)]
+
 mod alone;
 mod carried;
 mod lines;

@@ -3,7 +3,7 @@ ghost use Rattle.std.specs.Prelude.{◌≡◌, ◌≤◌, ◌<◌, length};
 ghost use Rattle.trace_form.specs.Entries.{entry_count, entry_at};
 
 // A write, stamped with the line before which it is done.
-#[derive(Drop)]
+#[derive(Clone, Copy)]
 pub struct Entry {
     pub line: u8,
     pub kind: u8,

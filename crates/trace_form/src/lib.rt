@@ -1,4 +1,6 @@
 // A recorded trace of register and port writes: its entries, and what it is refused for.
+#![tactic(auto)]
+
 mod entries;
 mod judge;
 

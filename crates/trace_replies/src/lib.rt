@@ -1,5 +1,7 @@
 // What a drawing by a trace is refused for before any entry is tried: of one line, and of the whole call. A state's own reply is given: 4, or of a lent record 16,
 // 17 or 18.
+#![tactic(auto)]
+
 ghost use Rattle.std.specs.Prelude.{◌≡◌, [], ◌∷◌};
 ghost use Rattle.reply.specs.First.{first_hit};
 ghost use Rattle.trace_form.specs.Judged.{trace_reply};

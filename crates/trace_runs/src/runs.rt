@@ -12,7 +12,7 @@ use state::State;
 use trace_form::{Entry, entry_at, entry_count};
 
 // What is carried from entry to entry besides the palettes: the reply and the place of a refused one, or done and 0, and the registers.
-#[derive(Drop)]
+#[derive(Clone, Copy)]
 pub struct Carried {
     pub reply: Reply,
     pub place: u16,

@@ -34,7 +34,7 @@ fn paper_colour(l: Colours, pal: &[u16; 256], plus: &[u8; 64], a: u8) -> u16
 }
 
 // The dots of an attribute, before the clip: of a bit that is 1, and of one that is 0.
-#[derive(Drop)]
+#[derive(Clone, Copy)]
 pub struct Dots {
     pub bit1: u16,
     pub bit0: u16,

@@ -1,4 +1,6 @@
 // The bytes of the ULA's bank, by row and column: bitmap, attribute, mode 6 and LoRes, a pixel of a byte, and mode 6's attribute.
+#![tactic(auto)]
+
 mod bytes;
 
 pub use bytes::{

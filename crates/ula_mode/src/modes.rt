@@ -5,7 +5,7 @@ ghost use Rattle.ula_mode.specs.Modes.{timex_mode, mode_of, is_lores, is_hires, 
 use state::{Ports, Ula};
 
 // How the bank is read: LoRes, the Timex modes 0, 1, 2 and 6, or not at all.
-#[derive(Drop)]
+#[derive(Clone, Copy)]
 pub enum Mode {
     Lores,
     Standard,

@@ -6,14 +6,14 @@ ghost use Rattle.ula_scheme.specs.Bounds.{MaskBounds};
 
 use state::{Palette, Ports, Ula};
 
-#[derive(Drop)]
+#[derive(Clone, Copy)]
 pub enum Scheme {
     Plain,
     Next,
     Plus,
 }
 
-#[derive(Drop)]
+#[derive(Clone, Copy)]
 pub struct Colours {
     pub scheme: Scheme,
     // $42

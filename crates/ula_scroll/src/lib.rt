@@ -1,4 +1,6 @@
 // How far the display is moved: the two scrolls, and which line and which column of the bank's picture the display shows.
+#![tactic(auto)]
+
 mod columns;
 mod scrolls;
 

@@ -8,7 +8,7 @@ use state::Ula;
 use ula_mode::{Mode, is_lores};
 
 // Pixels to the left and lines up.
-#[derive(Drop)]
+#[derive(Clone, Copy)]
 pub struct Scroll {
     pub x: usize,
     pub y: usize,

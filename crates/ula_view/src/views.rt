@@ -14,7 +14,7 @@ use ula_mode::Mode;
 use ula_scheme::Colours;
 
 // Which bytes a line of the display shows, and where its clip lets them show.
-#[derive(Drop)]
+#[derive(Clone, Copy)]
 pub struct View {
     pub mode: Mode,
     // The line and the pixels by which the scroll moves it.
@@ -27,7 +27,7 @@ pub struct View {
     pub right: usize,
 }
 
-#[derive(Drop)]
+#[derive(Clone, Copy)]
 pub struct UlaLine {
     pub on: bool,
     pub display: bool,
