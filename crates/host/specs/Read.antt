@@ -4,6 +4,6 @@ use Rattle.host.specs.declared.files.Read.{Read}
 use Rattle.host.specs.declared.files.Read.TheVariants.{Bytes, Missing}
 
 -- no more bytes are told than the buffer has
-abbrev pub within : Read → ℕ → Type 0
-within (Bytes n) length = n ≤ length
-within Missing length = Unit {0}
+abbrev pub IsWithin : Read → ℕ → Type 0
+IsWithin (Bytes n) length = n ≤ length
+IsWithin Missing length = Unit {0}

@@ -1,7 +1,7 @@
 // Whole files by name. No contract can say what a file holds.
 ghost use Rattle.std.specs.Prelude.{length};
 ghost use Rattle.io.specs.Counts.{IsPrefixLen};
-ghost use Rattle.host.specs.Read.{within};
+ghost use Rattle.host.specs.Read.{IsWithin};
 
 use crate::complaints;
 
@@ -15,7 +15,7 @@ pub enum Read {
 // Reads a file into a buffer, as far as either goes: a file that must have n bytes is read into a buffer of n + 1, where a
 // longer one shows.
 pub fn read_file(path: &[u8], buffer: &mut [u8]) -> Read
-    ensures { within result (length buffer.new) }
+    ensures { IsWithin result (length buffer.new) }
 {
     let fd = os::open_read(path);
     if fd < 0 {
@@ -28,7 +28,7 @@ pub fn read_file(path: &[u8], buffer: &mut [u8]) -> Read
 
 // Reads the file that argument i of a program names; that it cannot be opened is said on standard error.
 pub fn read_argument(program: &[u8], i: usize, buffer: &mut [u8]) -> Read
-    ensures { within result (length buffer.new) }
+    ensures { IsWithin result (length buffer.new) }
 {
     let mut path = io::buffer();
     let length = os::arg(i, &mut path);

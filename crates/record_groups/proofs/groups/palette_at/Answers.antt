@@ -1,0 +1,7 @@
+-- The palette's registers of the state are read at their places in the version.
+use Rattle.record_layout.proofs.Read.{palette-read}
+use borrow.Author.Rules.{rules}
+use Rattle.record_groups.proofs.groups.palette_at.Goals as goal
+
+pub returns : goal.returns
+returns c = palette-read _ _ _ c.added-n.ensures.0

@@ -1,0 +1,7 @@
+-- The ports of the state are read at their places in the version.
+use Rattle.record_layout.proofs.Read.{ports-read}
+use borrow.Author.Rules.{rules}
+use Rattle.record_groups.proofs.groups.ports_at.Goals as goal
+
+pub returns : goal.returns
+returns c = ports-read _ _ _ c.added-n.ensures.0
