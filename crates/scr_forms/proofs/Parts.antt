@@ -42,8 +42,8 @@ inside {lo} (next {p = p} h a) = omega (arith, inside a)
 pub bytes-length : {lo : ℕ} (ps : List BankPart) → Ascending lo ps → (bank : List ℕ) → length bank ≡ 16384 → length (bytes_in ps bank) ≡ sizes ps
 unfolding bytes_in
 bytes-length [] a bank h = refl
-bytes-length (p ∷ ps) (next l a) bank h =
-    rw (length-append, cut-length bank p.at p.size (omega (arith, inside a)), bytes-length ps a bank h)
+bytes-length {lo = lo} (p ∷ ps) (next l a) bank h =
+    rw (length-append, cut-length bank p.at p.size (omega (arith, inside a)), bytes-length {lo = p.at + p.size} ps a bank h)
 
 -- ---- from one bank to another
 
@@ -79,7 +79,7 @@ pub arrives : {lo : ℕ} (ps : List BankPart) → Ascending lo ps → (b c rest 
     → (i : ℕ) → get_or (filled ps b (bytes_in ps c ++ rest)) i 0 ≡ cond (in_parts ps i) (get_or c i 0) (get_or b i 0)
 unfolding filled bytes_in in_parts
 arrives [] a b c rest hb hc i = refl
-arrives (p ∷ ps) (next l a) b c rest hb hc i =
+arrives {lo = lo} (p ∷ ps) (next l a) b c rest hb hc i =
     let k : p.at + p.size ≤ length b = omega (arith, inside a) in
     let j : p.at + p.size ≤ length c = omega (arith, inside a) in
     let e : length (take p.size (drop p.at c)) ≡ p.size = cut-length c p.at p.size j in
@@ -89,7 +89,7 @@ arrives (p ∷ ps) (next l a) b c rest hb hc i =
       take_at (take p.size (drop p.at c)) (bytes_in ps c ++ rest) p.size e,
       drop_at (take p.size (drop p.at c)) (bytes_in ps c ++ rest) p.size e,
     )
-    (arrives ps a (placed b p.at (take p.size (drop p.at c))) c rest (length-placed b _ p.at f ∙ hb) hc i
+    (arrives {lo = p.at + p.size} ps a (placed b p.at (take p.size (drop p.at c))) c rest (length-placed b _ p.at f ∙ hb) hc i
     ∙ ap (λ (z : ℕ). cond (in_parts ps i) (get_or c i 0) z) (placed-bytes b c p.at p.size i k j)
     ∙ either-part (leb p.at i && ltb i (p.at + p.size)) (in_parts ps i) (get_or c i 0) (get_or b i 0))
 
@@ -118,16 +118,16 @@ module _ (p : BankPart) (b f : List ℕ) (hb : length b ≡ 16384) (hp : p.at + 
 pub filled-length : {lo : ℕ} (ps : List BankPart) → Ascending lo ps → (b f : List ℕ) → length b ≡ 16384 → sizes ps ≤ length f → length (filled ps b f) ≡ 16384
 unfolding filled
 filled-length [] a b f hb hf = hb
-filled-length (p ∷ ps) (next l a) b f hb hf =
-    filled-length ps a _ (drop p.size f) (after-length p b f hb (inside a) (omega arith)) (simp length-drop (omega arith))
+filled-length {lo = lo} (p ∷ ps) (next l a) b f hb hf =
+    filled-length {lo = p.at + p.size} ps a _ (drop p.size f) (after-length p b f hb (inside a) (omega arith)) (simp length-drop (omega arith))
 
 filled-below : {lo : ℕ} (ps : List BankPart) → Ascending lo ps → (b f : List ℕ) → length b ≡ 16384 → sizes ps ≤ length f → take lo (filled ps b f) ≡ take lo b
 unfolding filled
 filled-below [] a b f hb hf = refl
-filled-below {lo} (p ∷ ps) (next l a) b f hb hf =
+filled-below {lo = lo} (p ∷ ps) (next l a) b f hb hf =
     let m : lo ≤ p.at + p.size = omega arith in
     let k : p.size ≤ length f = omega arith in
-    let ih = filled-below ps a (placed b p.at (take p.size f)) (drop p.size f) (after-length p b f hb (inside a) k) (simp length-drop (omega arith)) in
+    let ih = filled-below {lo = p.at + p.size} ps a (placed b p.at (take p.size f)) (drop p.size f) (after-length p b f hb (inside a) k) (simp length-drop (omega arith)) in
     sym (take-take lo (p.at + p.size) (filled ps (placed b p.at (take p.size f)) (drop p.size f)) m)
     ∙ ap (λ (x : List ℕ). take lo x) ih
     ∙ take-take lo (p.at + p.size) (placed b p.at (take p.size f)) m
@@ -137,11 +137,11 @@ pub taken_out : {lo : ℕ} (ps : List BankPart) → Ascending lo ps → (b f : L
     → bytes_in ps (filled ps b f) ≡ take (sizes ps) f
 unfolding filled bytes_in
 taken_out [] a b f hb hf = refl
-taken_out (p ∷ ps) (next l a) b f hb hf =
+taken_out {lo = lo} (p ∷ ps) (next l a) b f hb hf =
     let k : p.size ≤ length f = omega arith in
     let j : sizes ps ≤ length (drop p.size f) = simp length-drop (omega arith) in
     let hb1 = after-length p b f hb (inside a) k in
-    let w = filled-below ps a (placed b p.at (take p.size f)) (drop p.size f) hb1 j in
+    let w = filled-below {lo = p.at + p.size} ps a (placed b p.at (take p.size f)) (drop p.size f) hb1 j in
     let here : take p.size (drop p.at (filled ps (placed b p.at (take p.size f)) (drop p.size f))) ≡ take p.size f
     = take-drop p.at p.size _ ∙ ap (drop p.at) w ∙ sym (take-drop p.at p.size _) ∙ after-here p b f hb (inside a) k in
-    rw (here, taken_out ps a (placed b p.at (take p.size f)) (drop p.size f) hb1 j) (sym (take-add p.size (sizes ps) f))
+    rw (here, taken_out {lo = p.at + p.size} ps a (placed b p.at (take p.size f)) (drop p.size f) hb1 j) (sym (take-add p.size (sizes ps) f))

@@ -1,0 +1,7 @@
+-- `write_numbered` takes a state apart, lends its palettes and puts it together again.
+use mathlib.Core.Path.{◌∙◌}
+use borrow.Author.Rules.{rules}
+use Rattle.register_tables.proofs.write_numbered.Goals as goal
+
+pub returns : goal.returns
+returns c = c.answer_on.ensures ∙ (rw c.registers_of-g.ensures at c.write_apart-w.ensures)
