@@ -46,7 +46,7 @@ use Rattle.line_replies.specs.Replies.{line_reply, lengths_reply, state_reply, d
 use Rattle.line_replies.proofs.Exits.{line-met, lengths-met, left}
 use Rattle.line_dots.proofs.Shaded.{shown-colours}
 use Rattle.line.proofs.Layers.{layered-line, finished-line}
-use Rattle.line.proofs.Shown.{line-without}
+use Rattle.line.proofs.ShownParts.{line-without}
 use Rattle.lent_drawing.specs.Bounds.{RecordBounds, tiles_laid}
 use Rattle.lent_drawing.specs.Drawn.{lent_draw_reply, lent_drawn}
 

@@ -1,3 +1,3 @@
 pub mod Bounded
 pub mod Layers
-pub mod Shown
+pub mod ShownParts

@@ -2,7 +2,6 @@
 use Rattle.pack_turns.specs.Rows.{row_same, rows_same}
 use Rattle.tilemap_turns.specs.Turns.{mirrored}
 use Rattle.lists.proofs.Search.{all-not, all_of}
-use borrow.Author.Tests.{not-true, not-false}
 use borrow.Author.Count.{below_none, below_more}
 use mathlib.Core.Bool.{Bool, true}
 use mathlib.Core.List.{List}
@@ -25,13 +24,13 @@ unfolding rows_same
 returns-then-not-row_same c =
     let h = c.loop-y in
     let a = c.args in
-    sym (all-not _ 8 h.y (omega arith) (row_is _ _ a.down _ h.y _ _ c.mirror.ensures.0 c.row_same.ensures ∙ not-true _ c.if-not-row_same.true))
+    sym (all-not _ 8 h.y (omega arith) (row_is _ _ a.down _ h.y _ _ c.mirror.ensures.0 c.row_same.ensures ∙ c.if-not-row_same.true))
 
 pub loop-y-preserved : goal.loop-y-preserved
 loop-y-preserved c =
     let h = c.loop-y in
     let a = c.args in
-    (search rules, below_more _ _ h.invariant.1 (row_is _ _ a.down _ h.y _ _ c.mirror.ensures.0 c.row_same.ensures ∙ not-false _ c.if-not-row_same.false))
+    (search rules, below_more _ _ h.invariant.1 (row_is _ _ a.down _ h.y _ _ c.mirror.ensures.0 c.row_same.ensures ∙ c.if-not-row_same.false))
 
 pub returns : goal.returns
 unfolding rows_same

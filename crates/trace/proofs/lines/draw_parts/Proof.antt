@@ -2,7 +2,7 @@
 use mathlib.Core.Path.{◌∙◌}
 use Rattle.register_parts.specs.Parts.{state_with}
 use Rattle.line.proofs.Bounded.{bounds_of}
-use Rattle.line.proofs.Shown.{chosen-line}
+use Rattle.line.proofs.ShownParts.{chosen-line}
 use Rattle.line.proofs.Layers.{finished-line}
 use borrow.Author.Rules.{rules}
 use Rattle.trace.proofs.lines.draw_parts.Statement.{statement}
