@@ -23,7 +23,7 @@ answered-same pic allowed n w = go (leb n allowed) refl
   where
     go : (b : Bool) → leb n allowed ≡ b → answered n allowed ≡ answered (tile_count pic) allowed
     go true e = ap (λ (k : ℕ). answered k allowed) (w.count-is (leb-true n allowed e))
-    go false e = let l = leb-false n allowed e in answered-many n allowed l ∙ sym (answered-many (tile_count pic) allowed (w.too-many l))
+    go false e = let l = leb-false n allowed e in answered-many n allowed l ∙ sym (answered-many (tile_count pic) allowed (w.too_many l))
 
 -- a buffer that is written where the count is at most the number allowed is written where the packing is accepted
 left : (allowed n : ℕ) (a : Packing) → a ≡ answered n allowed → (x' x y : List ℕ) → (n ≤ allowed → x' ≡ y) → (allowed < n → x' ≡ x)

@@ -15,4 +15,4 @@ composed_chosen-requires c =
 pub returns : goal.returns
 returns c =
     let a = c.args in
-    c.composed_chosen.ensures ∙ chosen-line a.ula.now a.tile.now a.line a.t1 _ (c.shown_of-v.ensures ∙ ap (λ (g : Registers). shown_of (bare g)) c.registers_of.ensures)
+    c.composed_chosen.ensures ∙ chosen-line a.ula.now a.tile.now a.line a.s _ (c.shown_of-v.ensures ∙ ap (λ (g : Registers). shown_of (bare g)) c.registers_of.ensures)

@@ -16,9 +16,9 @@ tiles_over-requires c =
 pub returns-then-tilemap_on : goal.returns-then-tilemap_on
 returns-then-tilemap_on c =
     let a = c.args in
-    laid-shown a.ula.now a.tile.now a.line a.t1 a.ulapal.now a.tilepal.now _ _ c.ula_row.ensures c.tiles_over.ensures
+    laid-shown a.ula.now a.tile.now a.line a.v a.ulapal.now a.tilepal.now _ _ c.ula_row.ensures c.tiles_over.ensures
 
 pub returns-else-tilemap_on : goal.returns-else-tilemap_on
 returns-else-tilemap_on c =
     let a = c.args in
-    bare-shown a.ula.now a.tile.now a.line a.t1 a.ulapal.now a.tilepal.now _ c.ula_row.ensures (sym c.tilemap_on.ensures ∙ c.if-tilemap_on.false)
+    bare-shown a.ula.now a.tile.now a.line a.v a.ulapal.now a.tilepal.now _ c.ula_row.ensures (sym c.tilemap_on.ensures ∙ c.if-tilemap_on.false)

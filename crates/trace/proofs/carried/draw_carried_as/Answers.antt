@@ -1,0 +1,28 @@
+-- What is judged first is met where it refuses nothing.
+use mathlib.Core.Path.{sym, ◌∙◌}
+use native.Mathlib.Omega.{arith}
+use Rattle.reply.proofs.Done.{number-done, done-is, not_done}
+use mathlib.Core.Path.{refl}
+use Rattle.line_replies.proofs.Exits.{drawn, left}
+use Rattle.trace_replies.proofs.Asked.{whole-met}
+use Rattle.trace.proofs.Sound.{sound}
+use borrow.Author.Rules.{rules}
+use Rattle.trace.proofs.carried.draw_carried_as.Goals as goal
+
+pub draw_lines-requires : goal.draw_lines-requires
+draw_lines-requires c =
+    let m = whole-met _ _ _ _ _ _ _ (sym c.whole_reply-r.ensures ∙ number-done _ (sym c.number.ensures ∙ c.if-number-eq0.true)) in
+    (sound _ (λ i. omega (arith, c.type_inv.trace i)) m.trace, c.requires m.own, m.ula, m.tile, m.dots, m.replies, m.places)
+
+pub returns-then-number-eq0 : goal.returns-then-number-eq0
+returns-then-number-eq0 c =
+    let r = c.whole_reply-r in
+    let z = done-is c.number.result r.result c.number.ensures c.if-number-eq0.true in
+    let e = c.draw_lines.ensures in
+    (r.ensures, drawn _ _ _ _ _ refl z e.0, drawn _ _ _ _ _ refl z e.1, drawn _ _ _ _ _ refl z e.2)
+
+pub returns-else-number-eq0 : goal.returns-else-number-eq0
+returns-else-number-eq0 c =
+    let r = c.whole_reply-r in
+    let z = not_done c.number.result r.result c.number.ensures c.if-number-eq0.false in
+    (r.ensures, left _ _ _ _ refl z, left _ _ _ _ refl z, left _ _ _ _ refl z)
