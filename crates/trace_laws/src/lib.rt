@@ -1,3 +1,2 @@
 // What no single drawing by a trace states: statements in specs/Claims.antt, proved in proofs/Claims.antt. There is no code here.
 #![tactic(auto)]
-

@@ -1,0 +1,22 @@
+-- The refusal of the place, or the seat made 0 (Lent).
+use mathlib.Core.Path.{refl}
+use native.Mathlib.Omega.{arith}
+use Rattle.desk_places.proofs.Found.{at_place, refused-place}
+use Rattle.desk.proofs.Lent.{inside, desk-left, exit-closed}
+use borrow.Author.Rules.{rules}
+use Rattle.desk.proofs.seating.close.Goals as goal
+
+pub overflow_mul-at : goal.overflow_mul-at
+overflow_mul-at c = omega (arith, (at_place _ _ _ _ c.find.ensures c.in-At.is).below)
+
+pub overflow_add-end : goal.overflow_add-end
+overflow_add-end c = omega (arith, (at_place _ _ _ _ c.find.ensures c.in-At.is).below)
+
+pub slice_bounds-zero-end : goal.slice_bounds-zero-end
+slice_bounds-zero-end c = let s = at_place _ _ _ _ c.find.ensures c.in-At.is in omega (arith, inside _ s.formed _ s.below)
+
+pub returns-in-Refused : goal.returns-in-Refused
+returns-in-Refused c = desk-left _ _ _ _ refl (refused-place _ _ _ _ c.find.ensures c.in-Refused.is)
+
+pub returns-in-At : goal.returns-in-At
+returns-in-At c = let s = at_place _ _ _ _ c.find.ensures c.in-At.is in exit-closed _ _ _ s _ c.desk-1.given.0 c.zero.ensures

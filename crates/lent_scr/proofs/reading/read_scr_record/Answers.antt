@@ -1,0 +1,45 @@
+-- Stored where nothing refuses (Exits), else all as it was.
+use Rattle.scr.proofs.Read.{colours-fit}
+use Rattle.lent_scr.proofs.Exits.{accepted, record-long, screen-stored, unread}
+use borrow.Author.Rules.{rules}
+use Rattle.lent_scr.proofs.reading.read_scr_record.Goals as goal
+
+pub store_screen-requires : goal.store_screen-requires
+store_screen-requires c =
+    let a = c.args in
+    let f = c.shape_of-found in
+    let b = c.read_current-read in
+    let q = c.read_reply-r in
+    let n = c.number in
+    let z = c.if-number-eq0.true in
+    let w = accepted a.bytes.now a.bank.now a.file.now b.result f.result q.result n.result b.ensures f.ensures q.ensures n.ensures z in
+    (record-long a.bytes.now a.bank.now a.file.now b.result f.result q.result n.result b.ensures f.ensures q.ensures n.ensures z, w.sized, f.ensures, w.formed)
+
+pub place-colours-requires : goal.place-colours-requires
+place-colours-requires c =
+    let a = c.args in
+    let f = c.shape_of-found in
+    let b = c.read_current-read in
+    let q = c.read_reply-r in
+    let n = c.number in
+    let w = accepted a.bytes.now a.bank.now a.file.now b.result f.result q.result n.result b.ensures f.ensures q.ensures n.ensures c.if-number-eq0.true in
+    colours-fit b.result.state a.file.now f.result f.ensures w.formed
+
+pub returns-then-number-eq0 : goal.returns-then-number-eq0
+returns-then-number-eq0 c =
+    let a = c.args in
+    let f = c.shape_of-found in
+    let b = c.read_current-read in
+    let q = c.read_reply-r in
+    let n = c.number in
+    let w = c.store_screen in
+    screen-stored a.bytes.now a.bank.now a.file.now b.result f.result q.result n.result b.ensures f.ensures q.ensures n.ensures c.if-number-eq0.true c.place-colours.result _ _ c.place-colours.ensures w.ensures.0 w.ensures.1
+
+pub returns-else-number-eq0 : goal.returns-else-number-eq0
+returns-else-number-eq0 c =
+    let a = c.args in
+    let f = c.shape_of-found in
+    let b = c.read_current-read in
+    let q = c.read_reply-r in
+    let n = c.number in
+    unread a.bytes.now a.bank.now a.file.now b.result f.result q.result n.result b.ensures f.ensures q.ensures n.ensures c.if-number-eq0.false
