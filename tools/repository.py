@@ -7,7 +7,7 @@ from pathlib import Path
 
 ROOT = Path(__file__).resolve().parent.parent
 CRATES = ROOT / "crates"
-NAME = r"[\w·′-]+"
+NAME = r"[\w·'-]+"
 RULE = r"\d+\.\d+"
 
 
@@ -115,9 +115,10 @@ def dependencies():
     """For each crate of crates.txt, in its order, the crates of the repository that it names."""
     listed = {}
     for line in read(ROOT / "crates.txt").split("\n"):
-        name, colon, below = line.split("#")[0].partition(":")
+        named, colon, below = line.split("#")[0].partition(":")
         if colon:
-            listed[name.strip()] = below.split()
+            # `staticlib` may stand after the name
+            listed[named.split()[0]] = below.split()
     return {name: [d for d in below if d in listed] for name, below in listed.items()}
 
 
@@ -127,14 +128,14 @@ def see_crate(name):
         stop(f"crates.txt has no crate {name}")
 
 
-def rt_dev(crate, *more):
-    """The lines that `rt dev CRATE` prints, and its status. Stops where a crate below it is not proved."""
+def rt_check(crate, *more, top=ROOT):
+    """The lines that `rt check` prints in the crate's folder, and its status. Stops where a crate below it does not build."""
     if not shutil.which("rt"):
         stop("rt, the tool of the Rattle toolchain, is not on the path")
-    ran = subprocess.run(["rt", "dev", crate, *more], cwd=ROOT, stdout=subprocess.PIPE, stderr=subprocess.STDOUT)
+    ran = subprocess.run(["rt", "check", *more], cwd=top / "crates" / crate, stdout=subprocess.PIPE, stderr=subprocess.STDOUT)
     lines = ran.stdout.decode("utf-8", "replace").split("\n")
     for line in lines:
-        if line.startswith("rt: FAILED:"):
-            below = line.split(":", 2)[2].strip()
-            stop(f"{crate} stands on crates that are not proved: {below}; prove those first (`rt check {below.split()[0]}`)")
+        below = re.match(r"rt: the library (\w+) did not build", line)
+        if below:
+            stop(f"{crate} stands on {below.group(1)}, which is not proved: prove that first (`rt check` in crates/{below.group(1)})")
     return lines, ran.returncode
