@@ -4,39 +4,41 @@
 
 use host::files::{Read, read_argument};
 use host::records::{OLD_RECORD, RECORD_FILE};
-use host::{complaints, report};
-use libc::STDOUT_FILENO;
+use host::{arguments, complaints, report};
+use std::io;
+use std::rt::{Env, Files};
 
-fn good(length: usize) {
+fn good(rt: &impl Print, length: usize) -> io::Result<()> {
     if length == OLD_RECORD {
-        report::word(b"nothing to mend: a record of version 1\n");
+        report::word(rt, b"nothing to mend: a record of version 1\n")
     } else {
-        report::word(b"nothing to mend: a record of version 2\n");
+        report::word(rt, b"nothing to mend: a record of version 2\n")
     }
 }
 
-fn explain(record: &[u8]) {
+fn explain(rt: &impl Print, record: &[u8]) -> io::Result<()> {
     let judgement = record::judge_record(record);
     let r = judgement.reply;
     if reply::number(r) == 0 {
-        good(record.len());
+        good(rt, record.len())
     } else {
-        record_fields::tell_fault(STDOUT_FILENO, r, judgement.place, record.len());
+        record_fields::tell_fault(rt, r, judgement.place, record.len())
     }
 }
 
-fn load() {
+fn load(rt: &(impl Print + Env + Files), err: &impl Print) -> io::Result<()> {
     let mut record = [0u8; RECORD_FILE];
-    if let Read::Bytes(n) = read_argument(b"explain", 1, &mut record) {
-        explain(&record[..n]);
+    match read_argument(rt, err, b"explain", 1, &mut record)? {
+        Read::Bytes(n) => explain(rt, &record[..n]),
+        Read::Missing => Ok(()),
     }
 }
 
 // The first argument is the program's own name.
-fn main() {
-    if os::arg_count() == 2 {
-        load();
+fn main(rt: HostRuntime) -> io::Result<()> {
+    if arguments::count(&rt) == 2 {
+        load(&rt, &rt.stderr())
     } else {
-        complaints::say(b"explain: give RECORD\n");
+        complaints::say(&rt.stderr(), b"explain: give RECORD\n")
     }
 }

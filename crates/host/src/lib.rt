@@ -1,7 +1,8 @@
-// What the programs share: whole files by name, the lengths of records, words and numbers on standard output, complaints on standard
+// What the programs share: arguments, whole files by name, the lengths of records, words and numbers on standard output, complaints on standard
 // error, marked buffers.
 #![tactic(auto)]
 
+pub mod arguments;
 pub mod complaints;
 pub mod files;
 pub mod marks;

@@ -1,23 +1,24 @@
 // Words, numbers and line ends on standard output.
-use libc::STDOUT_FILENO;
+use std::io;
 
-pub fn word(text: &[u8]) {
-    io::write_all(STDOUT_FILENO, text);
+pub fn word(rt: &impl Print, text: &[u8]) -> io::Result<()> {
+    rt.write_all(text)
 }
 
-pub fn number(n: u64) {
-    io::print_decimal(STDOUT_FILENO, n);
+pub fn number(rt: &impl Print, n: u64) -> io::Result<()> {
+    rt.print(n)
 }
 
-// In hexadecimal, with zeros in front up to a width.
-pub fn hex(n: u64, width: usize) {
-    io::print_hex(STDOUT_FILENO, n, width);
+// In hexadecimal, with zeros in front up to a width, of at most 16.
+pub fn hex(rt: &impl Print, n: u64, width: usize) -> io::Result<()> {
+    let width = width.min(16);
+    print!(rt; "{n:0width$x}")
 }
 
 // A line `label N`.
-pub fn row(label: &[u8], n: u64) {
-    word(label);
-    word(b" ");
-    number(n);
-    word(b"\n");
+pub fn row(rt: &impl Print, label: &[u8], n: u64) -> io::Result<()> {
+    word(rt, label)?;
+    word(rt, b" ")?;
+    number(rt, n)?;
+    word(rt, b"\n")
 }

@@ -3,70 +3,77 @@
 // nothing is written then.
 #![tactic(auto)]
 
-use host::complaints;
 use host::files::{Read, read_argument};
 use host::records::{OLD_RECORD, RECORD, RECORD_FILE};
-use libc::STDOUT_FILENO;
+use host::{arguments, complaints, report};
 use record_layout::Judgement;
 use reply::Reply;
+use std::io;
+use std::rt::{Env, Files};
 
-fn usage() {
-    complaints::say(b"move_record: give up RECORD, or back RECORD\n");
+fn usage(err: &impl Print) -> io::Result<()> {
+    complaints::say(err, b"move_record: give up RECORD, or back RECORD\n")
 }
 
 // A record of the other version may be a good one: what is wrong is the direction.
-fn wrong_version(r: Reply) {
-    complaints::refused(b"move_record", r);
-    complaints::say(b"move_record: byte 2, version: 1 to move up, 2 to move back\n");
+fn wrong_version(err: &impl Print, r: Reply) -> io::Result<()> {
+    complaints::refused(err, b"move_record", r)?;
+    complaints::say(
+        err,
+        b"move_record: byte 2, version: 1 to move up, 2 to move back\n",
+    )
 }
 
-fn answer(judgement: Judgement, length: usize, moved: &[u8]) {
+fn answer(
+    rt: &impl Print,
+    err: &impl Print,
+    judgement: Judgement,
+    length: usize,
+    moved: &[u8],
+) -> io::Result<()> {
     let r = judgement.reply;
     match r {
-        Reply::Done => {
-            io::write_all(STDOUT_FILENO, moved);
-        }
-        Reply::WrongVersion => wrong_version(r),
-        _ => record_fields::refused(b"move_record", r, judgement.place, length),
+        Reply::Done => report::word(rt, moved),
+        Reply::WrongVersion => wrong_version(err, r),
+        _ => record_fields::refused(err, b"move_record", r, judgement.place, length),
     }
 }
 
-fn move_up(old: &[u8]) {
+fn move_up(rt: &impl Print, err: &impl Print, old: &[u8]) -> io::Result<()> {
     let mut moved = [0u8; RECORD];
     let judgement = record_moves::move_up(old, &mut moved);
-    answer(judgement, old.len(), &moved);
+    answer(rt, err, judgement, old.len(), &moved)
 }
 
-fn move_back(new: &[u8]) {
+fn move_back(rt: &impl Print, err: &impl Print, new: &[u8]) -> io::Result<()> {
     let mut moved = [0u8; OLD_RECORD];
     let judgement = record_moves::move_back(new, &mut moved);
-    answer(judgement, new.len(), &moved);
+    answer(rt, err, judgement, new.len(), &moved)
 }
 
-fn move_by(word: &[u8], record: &[u8]) {
-    if check::same(word, b"up") {
-        move_up(record);
-    } else if check::same(word, b"back") {
-        move_back(record);
-    } else {
-        usage();
+fn move_by(rt: &impl Print, err: &impl Print, word: &[u8], record: &[u8]) -> io::Result<()> {
+    match word {
+        b"up" => move_up(rt, err, record),
+        b"back" => move_back(rt, err, record),
+        _ => usage(err),
     }
 }
 
-fn load_record(word: &[u8]) {
+fn load_record(rt: &(impl Print + Env + Files), err: &impl Print, word: &[u8]) -> io::Result<()> {
     let mut record = [0u8; RECORD_FILE];
-    if let Read::Bytes(n) = read_argument(b"move_record", 2, &mut record) {
-        move_by(word, &record[..n]);
+    match read_argument(rt, err, b"move_record", 2, &mut record)? {
+        Read::Bytes(n) => move_by(rt, err, word, &record[..n]),
+        Read::Missing => Ok(()),
     }
 }
 
 // The first argument is the program's own name.
-fn main() {
-    let mut word = io::buffer();
-    let n = os::arg(1, &mut word);
-    if os::arg_count() == 3 {
-        load_record(&word[..n]);
+fn main(rt: HostRuntime) -> io::Result<()> {
+    let mut word = [0u8; arguments::LONGEST];
+    let n = arguments::argument(&rt, 1, &mut word);
+    if arguments::count(&rt) == 3 {
+        load_record(&rt, &rt.stderr(), &word[..n])
     } else {
-        usage();
+        usage(&rt.stderr())
     }
 }

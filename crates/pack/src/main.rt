@@ -1,21 +1,22 @@
 // The packing program: a picture on standard input, and one line, `tiles N` or `refused N`.
 #![tactic(auto)]
 
+use host::files::fill;
 use host::report;
-use libc::STDIN_FILENO;
+use std::io;
 
 // All of standard input is the picture: one byte more than a picture has is enough to see that there are too many.
-fn main() {
+fn main(rt: HostRuntime) -> io::Result<()> {
     let mut picture = [0u8; 40961];
-    let n = io::read_full(STDIN_FILENO, &mut picture);
+    let n = fill(&mut rt.stdin(), &mut picture)?;
     let mut map = [0u8; 2560];
     let mut definitions = [0u8; 8192];
     let r = packer::pack(&picture[..n], 256, 0, &mut map, &mut definitions);
     let answer = r.reply;
     let refused = reply::number(answer);
     if refused == 0 {
-        report::row(b"tiles", r.count as u64);
+        report::row(&rt, b"tiles", r.count as u64)
     } else {
-        report::row(b"refused", refused as u64);
+        report::row(&rt, b"refused", refused as u64)
     }
 }

@@ -1,11 +1,19 @@
 // The files that the arguments name.
-ghost use Rattle.std.specs.Prelude.{length};
-ghost use Rattle.host.specs.Read.{within};
+ghost use Rattle.std.specs.Prelude.{length, IfOk};
+ghost use Rattle.host.specs.Read.{IsWithin};
 
 use host::files::{Read, read_argument};
+use std::io;
+use std::rt::{Env, Files};
 
-pub fn load(i: usize, buffer: &mut [u8]) -> Read
-    ensures { within result (length buffer.new) }
+// Where reading or saying fails, some of the buffer may have been written.
+pub fn load(
+    rt: &(impl Env + Files),
+    err: &impl Print,
+    i: usize,
+    buffer: &mut [u8],
+) -> io::Result<Read>
+    ensures { IfOk result (λ read. IsWithin read (length buffer.new)) }
 {
-    read_argument(b"preview", i, buffer)
+    read_argument(rt, err, b"preview", i, buffer)
 }

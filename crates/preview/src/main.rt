@@ -4,7 +4,6 @@
 // written there before every line is known to draw; what is wrong is said on standard error.
 #![tactic(auto)]
 
-
 mod banks;
 mod complaints;
 mod files;
@@ -12,39 +11,49 @@ mod output;
 mod screens;
 
 use files::load;
+use host::arguments;
 use host::files::Read;
 use host::records::RECORD_FILE;
+use std::io;
+use std::rt::{Env, Files};
 
-fn draw_example() {
+fn draw_example(rt: &impl Print, err: &impl Print) -> io::Result<()> {
     let ula = example_screen::example_ula();
     let tiles = example_screen::example_tiles();
-    output::show(example_screen::example_state(), &ula, &tiles);
+    output::show(rt, err, example_screen::example_state(), &ula, &tiles)
 }
 
 // A record, and what the names after it are: a screen file, or two banks, or these and a trace.
-fn draw_named(record: &[u8], names: usize) {
+fn draw_named(
+    rt: &(impl Print + Env + Files),
+    err: &impl Print,
+    record: &[u8],
+    names: usize,
+) -> io::Result<()> {
     if names == 2 {
-        screens::draw_with(record);
+        screens::draw_with(rt, err, record)
     } else {
-        banks::load_ula(record, names);
+        banks::load_ula(rt, err, record, names)
     }
 }
 
-fn load_record(names: usize) {
+fn load_record(rt: &(impl Print + Env + Files), err: &impl Print, names: usize) -> io::Result<()> {
     let mut record = [0u8; RECORD_FILE];
-    if let Read::Bytes(n) = load(1, &mut record) {
-        draw_named(&record[..n], names);
+    match load(rt, err, 1, &mut record)? {
+        Read::Bytes(n) => draw_named(rt, err, &record[..n], names),
+        Read::Missing => Ok(()),
     }
 }
 
 // The first argument is the program's own name.
-fn main() {
-    match os::arg_count() {
-        0 | 1 => draw_example(),
-        2 => screens::draw_standard(),
-        3 => load_record(2),
-        4 => load_record(3),
-        5 => load_record(4),
-        _ => complaints::usage(),
+fn main(rt: HostRuntime) -> io::Result<()> {
+    let err = rt.stderr();
+    match arguments::count(&rt) {
+        0 | 1 => draw_example(&rt, &err),
+        2 => screens::draw_standard(&rt, &err),
+        3 => load_record(&rt, &err, 2),
+        4 => load_record(&rt, &err, 3),
+        5 => load_record(&rt, &err, 4),
+        _ => complaints::usage(&err),
     }
 }

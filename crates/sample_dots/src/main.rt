@@ -3,78 +3,80 @@
 #![tactic(auto)]
 
 use line_sums::draw_case;
+use std::io;
+use std::rt::Files;
 
 // A record over one bank, which serves as both.
-fn draw(record: &[u8]) {
-    draw_case(record, b"bank", b"bank");
+fn draw(rt: &(impl Print + Files), record: &[u8]) -> io::Result<()> {
+    draw_case(rt, record, b"bank", b"bank")
 }
 
 // A record over two banks that differ in every byte.
-fn draw_over_two(record: &[u8]) {
-    draw_case(record, b"bank", b"other_bank");
+fn draw_over_two(rt: &(impl Print + Files), record: &[u8]) -> io::Result<()> {
+    draw_case(rt, record, b"bank", b"other_bank")
 }
 
-fn draw_offsets() {
-    draw(b"timex_off.rec");
-    draw(b"offset_13_mode_0.rec");
-    draw(b"offset_13_mode_6.rec");
-    draw(b"map_scroll_255.rec");
-    draw(b"stencil.rec");
+fn draw_offsets(rt: &(impl Print + Files)) -> io::Result<()> {
+    draw(rt, b"timex_off.rec")?;
+    draw(rt, b"offset_13_mode_0.rec")?;
+    draw(rt, b"offset_13_mode_6.rec")?;
+    draw(rt, b"map_scroll_255.rec")?;
+    draw(rt, b"stencil.rec")
 }
 
-fn draw_tiles_and_masks() {
-    draw(b"bit_8_ula_off.rec");
-    draw(b"bit_8_ula_on.rec");
-    draw(b"one_byte_entries.rec");
-    draw(b"mask_1.rec");
-    draw(b"mask_63.rec");
-    draw(b"mask_127.rec");
-    draw(b"mask_255.rec");
+fn draw_tiles_and_masks(rt: &(impl Print + Files)) -> io::Result<()> {
+    draw(rt, b"bit_8_ula_off.rec")?;
+    draw(rt, b"bit_8_ula_on.rec")?;
+    draw(rt, b"one_byte_entries.rec")?;
+    draw(rt, b"mask_1.rec")?;
+    draw(rt, b"mask_63.rec")?;
+    draw(rt, b"mask_127.rec")?;
+    draw(rt, b"mask_255.rec")
 }
 
-fn draw_lores_and_borders() {
-    draw(b"lores_plus.rec");
-    draw(b"lores_clip.rec");
-    draw(b"lores_timex_6.rec");
-    draw(b"lores_mask_255.rec");
-    draw(b"border_6_plain.rec");
-    draw(b"border_6_next.rec");
-    draw(b"border_6_plus.rec");
+fn draw_lores_and_borders(rt: &(impl Print + Files)) -> io::Result<()> {
+    draw(rt, b"lores_plus.rec")?;
+    draw(rt, b"lores_clip.rec")?;
+    draw(rt, b"lores_timex_6.rec")?;
+    draw(rt, b"lores_mask_255.rec")?;
+    draw(rt, b"border_6_plain.rec")?;
+    draw(rt, b"border_6_next.rec")?;
+    draw(rt, b"border_6_plus.rec")
 }
 
-fn draw_rest() {
-    draw(b"transparent_plus.rec");
-    draw(b"flash.rec");
-    draw(b"flash_plus.rec");
-    draw(b"last_entry.rec");
-    draw(b"far_offset.rec");
-    draw(b"no_mode.rec");
+fn draw_rest(rt: &(impl Print + Files)) -> io::Result<()> {
+    draw(rt, b"transparent_plus.rec")?;
+    draw(rt, b"flash.rec")?;
+    draw(rt, b"flash_plus.rec")?;
+    draw(rt, b"last_entry.rec")?;
+    draw(rt, b"far_offset.rec")?;
+    draw(rt, b"no_mode.rec")
 }
 
-fn draw_two_banks() {
-    draw_over_two(b"bit_8_ula_on.rec");
-    draw_over_two(b"one_byte_entries.rec");
-    draw_over_two(b"stencil.rec");
+fn draw_two_banks(rt: &(impl Print + Files)) -> io::Result<()> {
+    draw_over_two(rt, b"bit_8_ula_on.rec")?;
+    draw_over_two(rt, b"one_byte_entries.rec")?;
+    draw_over_two(rt, b"stencil.rec")
 }
 
-fn draw_clips() {
-    draw(b"ula_clip_crossed.rec");
-    draw_over_two(b"tile_clip_80.rec");
-    draw_over_two(b"tile_clip_crossed.rec");
+fn draw_clips(rt: &(impl Print + Files)) -> io::Result<()> {
+    draw(rt, b"ula_clip_crossed.rec")?;
+    draw_over_two(rt, b"tile_clip_80.rec")?;
+    draw_over_two(rt, b"tile_clip_crossed.rec")
 }
 
-fn draw_two_scrolls() {
-    draw(b"two_scrolls_mode_0.rec");
-    draw(b"two_scrolls_mode_6.rec");
-    draw(b"two_scrolls_lores.rec");
+fn draw_two_scrolls(rt: &(impl Print + Files)) -> io::Result<()> {
+    draw(rt, b"two_scrolls_mode_0.rec")?;
+    draw(rt, b"two_scrolls_mode_6.rec")?;
+    draw(rt, b"two_scrolls_lores.rec")
 }
 
-fn main() {
-    draw_offsets();
-    draw_tiles_and_masks();
-    draw_lores_and_borders();
-    draw_rest();
-    draw_two_banks();
-    draw_clips();
-    draw_two_scrolls();
+fn main(rt: HostRuntime) -> io::Result<()> {
+    draw_offsets(&rt)?;
+    draw_tiles_and_masks(&rt)?;
+    draw_lores_and_borders(&rt)?;
+    draw_rest(&rt)?;
+    draw_two_banks(&rt)?;
+    draw_clips(&rt)?;
+    draw_two_scrolls(&rt)
 }

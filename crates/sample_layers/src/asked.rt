@@ -3,6 +3,7 @@ ghost use Rattle.std.specs.Prelude.{◌≤◌};
 
 use host::report;
 use state::State;
+use std::io;
 use surface::LineNumber;
 
 // Border and paper 0 are colour 56, the fallback is 448.
@@ -17,20 +18,20 @@ fn screen(order: u8, transparent: u8, border: u8) -> State {
     s
 }
 
-fn print_reply(label: &[u8], n: u8) {
-    report::word(label);
-    report::word(b": ");
-    report::number(n as u64);
+fn print_reply(rt: &impl Print, label: &[u8], n: u8) -> io::Result<()> {
+    report::word(rt, label)?;
+    report::word(rt, b": ")?;
+    report::number(rt, n as u64)
 }
 
-fn print_number(n: u16) {
-    report::word(b" ");
-    report::number(n as u64);
+fn print_number(rt: &impl Print, n: u16) -> io::Result<()> {
+    report::word(rt, b" ")?;
+    report::number(rt, n as u64)
 }
 
 // The first six dots: sprite 100 over or under Layer 2's 200, each alone, neither, and Layer 2's 300 with priority, with the sprite and
 // alone.
-pub fn ask_order(label: &[u8], order: u8, transparent: u8) {
+pub fn ask_order(rt: &impl Print, label: &[u8], order: u8, transparent: u8) -> io::Result<()> {
     let bank = [0u8; 16384];
     let mut dots = [65535u16; 640];
     let mut layer2 = [512u16; 640];
@@ -44,18 +45,25 @@ pub fn ask_order(label: &[u8], order: u8, transparent: u8) {
     sprites[4] = 100;
     let s = screen(order, transparent, 0);
     let r = layers::draw_layers(LineNumber(0), &bank, &bank, &layer2, &sprites, s, &mut dots);
-    print_reply(label, reply::number(r));
-    print_number(dots[0]);
-    print_number(dots[1]);
-    print_number(dots[2]);
-    print_number(dots[3]);
-    print_number(dots[4]);
-    print_number(dots[5]);
-    report::word(b"\n");
+    print_reply(rt, label, reply::number(r))?;
+    print_number(rt, dots[0])?;
+    print_number(rt, dots[1])?;
+    print_number(rt, dots[2])?;
+    print_number(rt, dots[3])?;
+    print_number(rt, dots[4])?;
+    print_number(rt, dots[5])?;
+    report::word(rt, b"\n")
 }
 
 // The last numbers of both lent lines, and the last dot.
-pub fn ask_number(label: &[u8], layer2: u16, sprite: u16, order: u8, border: u8) {
+pub fn ask_number(
+    rt: &impl Print,
+    label: &[u8],
+    layer2: u16,
+    sprite: u16,
+    order: u8,
+    border: u8,
+) -> io::Result<()> {
     let bank = [0u8; 16384];
     let mut dots = [65535u16; 640];
     let mut layer2_line = [512u16; 640];
@@ -72,13 +80,19 @@ pub fn ask_number(label: &[u8], layer2: u16, sprite: u16, order: u8, border: u8)
         s,
         &mut dots,
     );
-    print_reply(label, reply::number(r));
-    print_number(dots[639]);
-    report::word(b"\n");
+    print_reply(rt, label, reply::number(r))?;
+    print_number(rt, dots[639])?;
+    report::word(rt, b"\n")
 }
 
 // Lines of these lengths, each at most one past the right one.
-pub fn ask_lengths(label: &[u8], layer2: usize, sprites: usize, width: usize)
+pub fn ask_lengths(
+    rt: &impl Print,
+    label: &[u8],
+    layer2: usize,
+    sprites: usize,
+    width: usize,
+) -> io::Result<()>
     requires { (layer2 ≤ 641) × (sprites ≤ 641) × (width ≤ 641) }
 {
     let bank = [0u8; 16384];
@@ -95,7 +109,7 @@ pub fn ask_lengths(label: &[u8], layer2: usize, sprites: usize, width: usize)
         s,
         &mut dots[..width],
     );
-    print_reply(label, reply::number(r));
-    print_number(dots[0]);
-    report::word(b"\n");
+    print_reply(rt, label, reply::number(r))?;
+    print_number(rt, dots[0])?;
+    report::word(rt, b"\n")
 }

@@ -5,75 +5,76 @@
 mod asked;
 
 use asked::{ask_lengths, ask_number, ask_order};
+use std::io;
 
 // $14: a colour that the screen does not have, and the one that it shows, which then is transparent.
 const OTHER: u8 = 0xE3;
 
 const SAME: u8 = 0x1C;
 
-fn print_orders(transparent: u8) {
-    ask_order(b"000 SLU", 0, transparent);
-    ask_order(b"001 LSU", 4, transparent);
-    ask_order(b"010 SUL", 8, transparent);
-    ask_order(b"011 LUS", 12, transparent);
-    ask_order(b"100 USL", 16, transparent);
-    ask_order(b"101 ULS", 20, transparent);
-    ask_order(b"110", 24, transparent);
-    ask_order(b"111", 28, transparent);
+fn print_orders(rt: &impl Print, transparent: u8) -> io::Result<()> {
+    ask_order(rt, b"000 SLU", 0, transparent)?;
+    ask_order(rt, b"001 LSU", 4, transparent)?;
+    ask_order(rt, b"010 SUL", 8, transparent)?;
+    ask_order(rt, b"011 LUS", 12, transparent)?;
+    ask_order(rt, b"100 USL", 16, transparent)?;
+    ask_order(rt, b"101 ULS", 20, transparent)?;
+    ask_order(rt, b"110", 24, transparent)?;
+    ask_order(rt, b"111", 28, transparent)
 }
 
 // Bit 0, which shows the sprites of the machine itself, and bits 6, 5 and 1 do not matter.
-fn print_other_bits() {
-    ask_order(b"001 LSU, other bits", 0x67, OTHER);
+fn print_other_bits(rt: &impl Print) -> io::Result<()> {
+    ask_order(rt, b"001 LSU, other bits", 0x67, OTHER)
 }
 
-fn print_layer2() {
-    ask_number(b"Layer 2 511", 511, 512, 0, 0);
-    ask_number(b"Layer 2 512", 512, 512, 0, 0);
-    ask_number(b"Layer 2 513", 513, 512, 0, 0);
-    ask_number(b"Layer 2 1023", 1023, 512, 0, 0);
-    ask_number(b"Layer 2 1024", 1024, 512, 0, 0);
-    ask_number(b"Layer 2 1535", 1535, 512, 0, 0);
-    ask_number(b"Layer 2 1536", 1536, 512, 0, 0);
-    ask_number(b"Layer 2 65535", 65535, 512, 0, 0);
+fn print_layer2(rt: &impl Print) -> io::Result<()> {
+    ask_number(rt, b"Layer 2 511", 511, 512, 0, 0)?;
+    ask_number(rt, b"Layer 2 512", 512, 512, 0, 0)?;
+    ask_number(rt, b"Layer 2 513", 513, 512, 0, 0)?;
+    ask_number(rt, b"Layer 2 1023", 1023, 512, 0, 0)?;
+    ask_number(rt, b"Layer 2 1024", 1024, 512, 0, 0)?;
+    ask_number(rt, b"Layer 2 1535", 1535, 512, 0, 0)?;
+    ask_number(rt, b"Layer 2 1536", 1536, 512, 0, 0)?;
+    ask_number(rt, b"Layer 2 65535", 65535, 512, 0, 0)
 }
 
-fn print_sprites() {
-    ask_number(b"sprites 511", 512, 511, 0, 0);
-    ask_number(b"sprites 512", 512, 512, 0, 0);
-    ask_number(b"sprites 513", 512, 513, 0, 0);
-    ask_number(b"sprites 1024", 512, 1024, 0, 0);
-    ask_number(b"sprites 65535", 512, 65535, 0, 0);
+fn print_sprites(rt: &impl Print) -> io::Result<()> {
+    ask_number(rt, b"sprites 511", 512, 511, 0, 0)?;
+    ask_number(rt, b"sprites 512", 512, 512, 0, 0)?;
+    ask_number(rt, b"sprites 513", 512, 513, 0, 0)?;
+    ask_number(rt, b"sprites 1024", 512, 1024, 0, 0)?;
+    ask_number(rt, b"sprites 65535", 512, 65535, 0, 0)
 }
 
 // Numbers that would not show.
-fn print_hidden() {
-    ask_number(b"Layer 2 600 below a sprite", 600, 7, 0, 0);
-    ask_number(b"sprites 600 below Layer 2", 7, 600, 4, 0);
-    ask_number(b"both below the screen", 600, 600, 16, 0);
+fn print_hidden(rt: &impl Print) -> io::Result<()> {
+    ask_number(rt, b"Layer 2 600 below a sprite", 600, 7, 0, 0)?;
+    ask_number(rt, b"sprites 600 below Layer 2", 7, 600, 4, 0)?;
+    ask_number(rt, b"both below the screen", 600, 600, 16, 0)
 }
 
-fn print_lengths() {
-    ask_lengths(b"Layer 2 of 639", 639, 640, 640);
-    ask_lengths(b"sprites of 641", 640, 641, 640);
-    ask_lengths(b"639 dots", 640, 640, 639);
-    ask_lengths(b"none of 640", 0, 641, 641);
+fn print_lengths(rt: &impl Print) -> io::Result<()> {
+    ask_lengths(rt, b"Layer 2 of 639", 639, 640, 640)?;
+    ask_lengths(rt, b"sprites of 641", 640, 641, 640)?;
+    ask_lengths(rt, b"639 dots", 640, 640, 639)?;
+    ask_lengths(rt, b"none of 640", 0, 641, 641)
 }
 
 // A border of 8 is not lawful.
-fn print_first() {
-    ask_number(b"19 before 20", 513, 513, 24, 0);
-    ask_number(b"4 before 19", 513, 512, 28, 8);
-    ask_number(b"4 before 20", 512, 513, 0, 8);
+fn print_first(rt: &impl Print) -> io::Result<()> {
+    ask_number(rt, b"19 before 20", 513, 513, 24, 0)?;
+    ask_number(rt, b"4 before 19", 513, 512, 28, 8)?;
+    ask_number(rt, b"4 before 20", 512, 513, 0, 8)
 }
 
-fn main() {
-    print_orders(OTHER);
-    print_orders(SAME);
-    print_other_bits();
-    print_layer2();
-    print_sprites();
-    print_hidden();
-    print_lengths();
-    print_first();
+fn main(rt: HostRuntime) -> io::Result<()> {
+    print_orders(&rt, OTHER)?;
+    print_orders(&rt, SAME)?;
+    print_other_bits(&rt)?;
+    print_layer2(&rt)?;
+    print_sprites(&rt)?;
+    print_hidden(&rt)?;
+    print_lengths(&rt)?;
+    print_first(&rt)
 }

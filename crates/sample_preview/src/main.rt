@@ -3,9 +3,10 @@
 #![tactic(auto)]
 
 use line_sums::print_lines;
+use std::io;
 
-fn main() {
+fn main(rt: HostRuntime) -> io::Result<()> {
     let ula = example_screen::example_ula();
     let tile = example_screen::example_tiles();
-    print_lines(&ula, &tile, example_screen::example_state());
+    print_lines(&rt, &ula, &tile, example_screen::example_state())
 }

@@ -4,14 +4,16 @@ use crate::judged::judge_first;
 use host::files::{bytes_of, read_file};
 use host::records::RECORD_FILE;
 use host::report;
+use std::io;
+use std::rt::Files;
 
-fn print_place(name: &[u8], place: usize, byte: u8) {
-    report::word(name);
-    report::word(b" place ");
-    report::number(place as u64);
-    report::word(b" byte ");
-    report::number(byte as u64);
-    report::word(b": ");
+fn print_place(rt: &impl Print, name: &[u8], place: usize, byte: u8) -> io::Result<()> {
+    report::word(rt, name)?;
+    report::word(rt, b" place ")?;
+    report::number(rt, place as u64)?;
+    report::word(rt, b" byte ")?;
+    report::number(rt, byte as u64)?;
+    report::word(rt, b": ")
 }
 
 fn change(bytes: &mut [u8], place: usize, byte: u8) {
@@ -20,159 +22,159 @@ fn change(bytes: &mut [u8], place: usize, byte: u8) {
     }
 }
 
-fn damage(name: &[u8], place: usize, byte: u8) {
+fn damage(rt: &(impl Print + Files), name: &[u8], place: usize, byte: u8) -> io::Result<()> {
     let mut bytes = [0u8; RECORD_FILE];
-    let n = bytes_of(name, &mut bytes);
+    let n = bytes_of(rt, name, &mut bytes)?;
     change(&mut bytes, place, byte);
-    print_place(name, place, byte);
-    judge_first(&bytes, n);
+    print_place(rt, name, place, byte)?;
+    judge_first(rt, &bytes, n)
 }
 
 // A byte of the old record in which a half is held, of the one in which none is, and of the first in version 2.
-fn first(place: usize, byte: u8) {
-    damage(b"own1.rec", place, byte);
+fn first(rt: &(impl Print + Files), place: usize, byte: u8) -> io::Result<()> {
+    damage(rt, b"own1.rec", place, byte)
 }
 
-fn second(place: usize, byte: u8) {
-    damage(b"own2.rec", place, byte);
+fn second(rt: &(impl Print + Files), place: usize, byte: u8) -> io::Result<()> {
+    damage(rt, b"own2.rec", place, byte)
 }
 
-fn third(place: usize, byte: u8) {
-    damage(b"own3.rec", place, byte);
+fn third(rt: &(impl Print + Files), place: usize, byte: u8) -> io::Result<()> {
+    damage(rt, b"own3.rec", place, byte)
 }
 
 // The first n bytes of a record with bytes 0 after it.
-fn cut(name: &[u8], n: usize) {
+fn cut(rt: &(impl Print + Files), name: &[u8], n: usize) -> io::Result<()> {
     let mut bytes = [0u8; RECORD_FILE];
-    read_file(name, &mut bytes);
-    report::word(name);
-    report::word(b" length ");
-    report::number(n as u64);
-    report::word(b": ");
-    judge_first(&bytes, n);
+    read_file(rt, name, &mut bytes)?;
+    report::word(rt, name)?;
+    report::word(rt, b" length ")?;
+    report::number(rt, n as u64)?;
+    report::word(rt, b": ")?;
+    judge_first(rt, &bytes, n)
 }
 
-fn print_head() {
-    first(0, 9);
-    first(1, 102);
-    first(2, 0);
-    first(2, 2);
-    first(3, 255);
-    first(6, 16);
-    first(6, 64);
-    first(8, 5);
-    first(8, 255);
-    first(10, 15);
-    first(10, 16);
-    first(11, 2);
-    first(11, 65);
+fn print_head(rt: &(impl Print + Files)) -> io::Result<()> {
+    first(rt, 0, 9)?;
+    first(rt, 1, 102)?;
+    first(rt, 2, 0)?;
+    first(rt, 2, 2)?;
+    first(rt, 3, 255)?;
+    first(rt, 6, 16)?;
+    first(rt, 6, 64)?;
+    first(rt, 8, 5)?;
+    first(rt, 8, 255)?;
+    first(rt, 10, 15)?;
+    first(rt, 10, 16)?;
+    first(rt, 11, 2)?;
+    first(rt, 11, 65)
 }
 
-fn print_tiles() {
-    first(12, 1);
-    first(14, 4);
-    first(17, 63);
-    first(17, 64);
-    first(18, 64);
-    first(20, 191);
-    first(20, 192);
+fn print_tiles(rt: &(impl Print + Files)) -> io::Result<()> {
+    first(rt, 12, 1)?;
+    first(rt, 14, 4)?;
+    first(rt, 17, 63)?;
+    first(rt, 17, 64)?;
+    first(rt, 18, 64)?;
+    first(rt, 20, 191)?;
+    first(rt, 20, 192)
 }
 
-fn print_ports() {
-    first(29, 3);
-    first(29, 4);
-    first(30, 4);
-    first(31, 0);
-    first(31, 2);
-    first(32, 0);
-    first(33, 7);
-    first(33, 8);
-    first(35, 127);
-    first(35, 128);
-    first(36, 1);
-    first(36, 2);
-    first(37, 255);
+fn print_ports(rt: &(impl Print + Files)) -> io::Result<()> {
+    first(rt, 29, 3)?;
+    first(rt, 29, 4)?;
+    first(rt, 30, 4)?;
+    first(rt, 31, 0)?;
+    first(rt, 31, 2)?;
+    first(rt, 32, 0)?;
+    first(rt, 33, 7)?;
+    first(rt, 33, 8)?;
+    first(rt, 35, 127)?;
+    first(rt, 35, 128)?;
+    first(rt, 36, 1)?;
+    first(rt, 36, 2)?;
+    first(rt, 37, 255)
 }
 
-fn print_tables() {
-    first(101, 255);
-    first(102, 1);
-    first(102, 2);
-    first(2148, 1);
-    first(2148, 2);
-    first(2149, 255);
+fn print_tables(rt: &(impl Print + Files)) -> io::Result<()> {
+    first(rt, 101, 255)?;
+    first(rt, 102, 1)?;
+    first(rt, 102, 2)?;
+    first(rt, 2148, 1)?;
+    first(rt, 2148, 2)?;
+    first(rt, 2149, 255)
 }
 
-fn print_none_held() {
-    second(31, 1);
-    second(31, 2);
-    second(32, 1);
-    second(36, 0);
-    second(36, 2);
+fn print_none_held(rt: &(impl Print + Files)) -> io::Result<()> {
+    second(rt, 31, 1)?;
+    second(rt, 31, 2)?;
+    second(rt, 32, 1)?;
+    second(rt, 36, 0)?;
+    second(rt, 36, 2)
 }
 
 // In version 2, from the head to the first clip.
-fn print_scrolls() {
-    third(1, 100);
-    third(2, 1);
-    third(2, 3);
-    third(20, 191);
-    third(20, 192);
-    third(21, 255);
-    third(22, 191);
-    third(22, 192);
-    third(23, 255);
+fn print_scrolls(rt: &(impl Print + Files)) -> io::Result<()> {
+    third(rt, 1, 100)?;
+    third(rt, 2, 1)?;
+    third(rt, 2, 3)?;
+    third(rt, 20, 191)?;
+    third(rt, 20, 192)?;
+    third(rt, 21, 255)?;
+    third(rt, 22, 191)?;
+    third(rt, 22, 192)?;
+    third(rt, 23, 255)
 }
 
 // What stands two places further back there.
-fn print_moved_ports() {
-    third(31, 3);
-    third(31, 4);
-    third(32, 4);
-    third(33, 0);
-    third(35, 7);
-    third(35, 8);
-    third(37, 128);
-    third(38, 2);
+fn print_moved_ports(rt: &(impl Print + Files)) -> io::Result<()> {
+    third(rt, 31, 3)?;
+    third(rt, 31, 4)?;
+    third(rt, 32, 4)?;
+    third(rt, 33, 0)?;
+    third(rt, 35, 7)?;
+    third(rt, 35, 8)?;
+    third(rt, 37, 128)?;
+    third(rt, 38, 2)
 }
 
-fn print_moved_tables() {
-    third(103, 255);
-    third(104, 1);
-    third(104, 2);
-    third(2150, 1);
-    third(2150, 2);
-    third(2151, 255);
+fn print_moved_tables(rt: &(impl Print + Files)) -> io::Result<()> {
+    third(rt, 103, 255)?;
+    third(rt, 104, 1)?;
+    third(rt, 104, 2)?;
+    third(rt, 2150, 1)?;
+    third(rt, 2150, 2)?;
+    third(rt, 2151, 255)
 }
 
-fn print_old_lengths(name: &[u8]) {
-    cut(name, 0);
-    cut(name, 1);
-    cut(name, 2);
-    cut(name, 3);
-    cut(name, 2149);
-    cut(name, 2150);
-    cut(name, 2151);
-    cut(name, 2152);
+fn print_old_lengths(rt: &(impl Print + Files), name: &[u8]) -> io::Result<()> {
+    cut(rt, name, 0)?;
+    cut(rt, name, 1)?;
+    cut(rt, name, 2)?;
+    cut(rt, name, 3)?;
+    cut(rt, name, 2149)?;
+    cut(rt, name, 2150)?;
+    cut(rt, name, 2151)?;
+    cut(rt, name, 2152)
 }
 
-fn print_lengths(name: &[u8]) {
-    cut(name, 3);
-    cut(name, 2150);
-    cut(name, 2151);
-    cut(name, 2152);
-    cut(name, 2153);
+fn print_lengths(rt: &(impl Print + Files), name: &[u8]) -> io::Result<()> {
+    cut(rt, name, 3)?;
+    cut(rt, name, 2150)?;
+    cut(rt, name, 2151)?;
+    cut(rt, name, 2152)?;
+    cut(rt, name, 2153)
 }
 
-pub fn print_damaged() {
-    print_head();
-    print_tiles();
-    print_ports();
-    print_tables();
-    print_none_held();
-    print_scrolls();
-    print_moved_ports();
-    print_moved_tables();
-    print_old_lengths(b"own1.rec");
-    print_lengths(b"own3.rec");
+pub fn print_damaged(rt: &(impl Print + Files)) -> io::Result<()> {
+    print_head(rt)?;
+    print_tiles(rt)?;
+    print_ports(rt)?;
+    print_tables(rt)?;
+    print_none_held(rt)?;
+    print_scrolls(rt)?;
+    print_moved_ports(rt)?;
+    print_moved_tables(rt)?;
+    print_old_lengths(rt, b"own1.rec")?;
+    print_lengths(rt, b"own3.rec")
 }

@@ -5,6 +5,8 @@ use host::report;
 use record_layout::RecordRead;
 use reply::Reply;
 use state::State;
+use std::io;
+use std::rt::Files;
 
 // Whether the record of a state is these bytes; those of an old record, once it is moved back.
 fn written_as(s: State, bytes: &[u8]) -> bool {
@@ -13,55 +15,57 @@ fn written_as(s: State, bytes: &[u8]) -> bool {
     if bytes.len() == OLD_RECORD {
         let mut old = [0u8; OLD_RECORD];
         record_moves::move_back(&back, &mut old);
-        check::same(&old, bytes)
+        old.as_slice() == bytes
     } else {
-        check::same(&back, bytes)
+        back.as_slice() == bytes
     }
 }
 
 // A reading's reply and place; then whether writing gives the same bytes, or whether a refusal gives the reset state.
-pub fn judge_answer(a: RecordRead, bytes: &[u8]) {
+pub fn judge_answer(rt: &impl Print, a: RecordRead, bytes: &[u8]) -> io::Result<()> {
     let r = a.reply;
-    report::number(reply::number(r) as u64);
-    report::word(b" at ");
-    report::number(a.place as u64);
+    report::number(rt, reply::number(r) as u64)?;
+    report::word(rt, b" at ")?;
+    report::number(rt, a.place as u64)?;
     if let Reply::Done = r {
         if written_as(a.state, bytes) {
-            report::word(b" same\n");
+            report::word(rt, b" same\n")?;
         } else {
-            report::word(b" different\n");
+            report::word(rt, b" different\n")?;
         }
     } else {
         let mut plain = [0u8; RECORD];
         record::write_record(state::reset(), &mut plain);
         if written_as(a.state, &plain) {
-            report::word(b" reset\n");
+            report::word(rt, b" reset\n")?;
         } else {
-            report::word(b" not reset\n");
+            report::word(rt, b" not reset\n")?;
         }
     }
+    Ok(())
 }
 
-fn judge(bytes: &[u8]) {
-    judge_answer(record::read_record(bytes), bytes);
+fn judge(rt: &impl Print, bytes: &[u8]) -> io::Result<()> {
+    judge_answer(rt, record::read_record(bytes), bytes)
 }
 
 // The first n of the bytes.
-pub fn judge_first(bytes: &[u8], n: usize) {
+pub fn judge_first(rt: &impl Print, bytes: &[u8], n: usize) -> io::Result<()> {
     if n <= bytes.len() {
-        judge(&bytes[..n]);
+        judge(rt, &bytes[..n])?;
     }
+    Ok(())
 }
 
 // A file of the data folder; one that is longer than a record shows as one byte too many.
-pub fn print_file(name: &[u8]) {
-    report::word(name);
+pub fn print_file(rt: &(impl Print + Files), name: &[u8]) -> io::Result<()> {
+    report::word(rt, name)?;
     let mut bytes = [0u8; RECORD_FILE];
-    let got = read_file(name, &mut bytes);
+    let got = read_file(rt, name, &mut bytes)?;
     let Read::Bytes(n) = got else {
-        report::word(b" missing\n");
-        return;
+        report::word(rt, b" missing\n")?;
+        return Ok(());
     };
-    report::word(b" ");
-    judge_first(&bytes, n);
+    report::word(rt, b" ")?;
+    judge_first(rt, &bytes, n)
 }

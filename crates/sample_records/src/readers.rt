@@ -3,22 +3,24 @@ use crate::judged::judge_answer;
 use host::files::bytes_of;
 use host::records::RECORD_FILE;
 use host::report;
+use std::io;
+use std::rt::Files;
 
-fn print_by_first(bytes: &[u8]) {
-    report::word(b" by the reader of version 1 ");
-    judge_answer(record::read_old(bytes), bytes);
+fn print_by_first(rt: &impl Print, bytes: &[u8]) -> io::Result<()> {
+    report::word(rt, b" by the reader of version 1 ")?;
+    judge_answer(rt, record::read_old(bytes), bytes)
 }
 
-fn print_by_second(bytes: &[u8]) {
-    report::word(b" by that of version 2 alone ");
-    judge_answer(record::read_current(bytes), bytes);
+fn print_by_second(rt: &impl Print, bytes: &[u8]) -> io::Result<()> {
+    report::word(rt, b" by that of version 2 alone ")?;
+    judge_answer(rt, record::read_current(bytes), bytes)
 }
 
-pub fn print_readers(name: &[u8]) {
+pub fn print_readers(rt: &(impl Print + Files), name: &[u8]) -> io::Result<()> {
     let mut bytes = [0u8; RECORD_FILE];
-    let n = bytes_of(name, &mut bytes);
-    report::word(name);
-    print_by_first(&bytes[..n]);
-    report::word(name);
-    print_by_second(&bytes[..n]);
+    let n = bytes_of(rt, name, &mut bytes)?;
+    report::word(rt, name)?;
+    print_by_first(rt, &bytes[..n])?;
+    report::word(rt, name)?;
+    print_by_second(rt, &bytes[..n])
 }

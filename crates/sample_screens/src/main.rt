@@ -12,6 +12,8 @@ use host::files::bytes_of;
 use host::report;
 use lists::put;
 use state::State;
+use std::io;
+use std::rt::Files;
 
 // What reading sets in other values, and a mark in each other group: LoRes and ULANext on, the Timex modes off, a half held.
 fn marked() -> State {
@@ -33,44 +35,44 @@ fn marked() -> State {
     s
 }
 
-fn print_both(name: &[u8], words: &[u8], file: &[u8]) {
-    report::word(name);
-    report::word(words);
-    report::word(b"\n");
-    readings::print_reset(file);
-    readings::print_marked(file, marked());
+fn print_both(rt: &impl Print, name: &[u8], words: &[u8], file: &[u8]) -> io::Result<()> {
+    report::word(rt, name)?;
+    report::word(rt, words)?;
+    report::word(rt, b"\n")?;
+    readings::print_reset(rt, file)?;
+    readings::print_marked(rt, file, marked())
 }
 
-fn print_file(name: &[u8]) {
+fn print_file(rt: &(impl Print + Files), name: &[u8]) -> io::Result<()> {
     let mut file = [0u8; 12354];
-    let n = bytes_of(name, &mut file);
-    print_both(name, b"", &file[..n]);
+    let n = bytes_of(rt, name, &mut file)?;
+    print_both(rt, name, b"", &file[..n])
 }
 
 // The first n bytes of a file, and after them the colours of the file that has some.
-fn print_coloured(name: &[u8], n: usize)
+fn print_coloured(rt: &(impl Print + Files), name: &[u8], n: usize) -> io::Result<()>
     requires { n ≤ 12289 }
 {
     let mut file = [0u8; 12354];
-    bytes_of(name, &mut file);
+    bytes_of(rt, name, &mut file)?;
     let mut other = [0u8; 6976];
-    bytes_of(b"struct0p.6976.scr", &mut other);
+    bytes_of(rt, b"struct0p.6976.scr", &mut other)?;
     let from = 6912;
     put(&mut file, n, &other[from..]);
     let end = n + 64;
-    print_both(name, b" with 64 colours", &file[..end]);
+    print_both(rt, name, b" with 64 colours", &file[..end])
 }
 
-fn main() {
-    print_file(b"struct0.6912.scr");
-    print_file(b"struct0p.6976.scr");
-    print_file(b"struct2.12288.scr");
-    print_coloured(b"struct2.12288.scr", 12288);
-    print_file(b"struct6_4.12289.scr");
-    print_coloured(b"struct6_4.12289.scr", 12289);
-    refusals::print_lengths();
-    refusals::print_ports();
-    refusals::print_read_order();
-    refusals::print_modes();
-    refusals::print_write_order();
+fn main(rt: HostRuntime) -> io::Result<()> {
+    print_file(&rt, b"struct0.6912.scr")?;
+    print_file(&rt, b"struct0p.6976.scr")?;
+    print_file(&rt, b"struct2.12288.scr")?;
+    print_coloured(&rt, b"struct2.12288.scr", 12288)?;
+    print_file(&rt, b"struct6_4.12289.scr")?;
+    print_coloured(&rt, b"struct6_4.12289.scr", 12289)?;
+    refusals::print_lengths(&rt)?;
+    refusals::print_ports(&rt)?;
+    refusals::print_read_order(&rt)?;
+    refusals::print_modes(&rt)?;
+    refusals::print_write_order(&rt)
 }

@@ -5,6 +5,7 @@ use host::marks::untouched;
 use host::report;
 use line_sums::line_sum;
 use lists::u16_of;
+use std::io;
 
 // A byte, and 0 past the end.
 fn byte_at(bytes: &[u8], i: usize) -> u16
@@ -23,20 +24,21 @@ fn pairs(bytes: &[u8]) -> [u16; 8192] {
 }
 
 // The Adler-32 of bytes, an even number of them, at most 16,384.
-pub fn print_sum(bytes: &[u8]) {
+pub fn print_sum(rt: &impl Print, bytes: &[u8]) -> io::Result<()> {
     let p = pairs(bytes);
     let n = bytes.len() / 2;
     if n <= 8192 {
-        report::hex(line_sum(&p[..n]) as u64, 8);
+        report::hex(rt, line_sum(&p[..n]) as u64, 8)?;
     }
+    Ok(())
 }
 
 // Whether bytes that were all the mark are so still.
-pub fn print_kept(label: &[u8], bytes: &[u8]) {
-    report::word(label);
+pub fn print_kept(rt: &impl Print, label: &[u8], bytes: &[u8]) -> io::Result<()> {
+    report::word(rt, label)?;
     if untouched(bytes) {
-        report::word(b" untouched");
+        report::word(rt, b" untouched")
     } else {
-        report::word(b" changed");
+        report::word(rt, b" changed")
     }
 }

@@ -1,93 +1,94 @@
 // Each bound at its edge and one past it.
 use crate::judged;
+use std::io;
 
-fn print_ula_edges() {
-    judged::lores_y(191);
-    judged::lores_y(192);
-    judged::ula_x(255);
-    judged::ula_y(191);
-    judged::ula_y(192);
-    judged::control(193);
-    judged::control(2);
-    judged::control(32);
+fn print_ula_edges(rt: &impl Print) -> io::Result<()> {
+    judged::lores_y(rt, 191)?;
+    judged::lores_y(rt, 192)?;
+    judged::ula_x(rt, 255)?;
+    judged::ula_y(rt, 191)?;
+    judged::ula_y(rt, 192)?;
+    judged::control(rt, 193)?;
+    judged::control(rt, 2)?;
+    judged::control(rt, 32)
 }
 
-fn print_mask_edges() {
-    judged::mask(0);
-    judged::mask(1);
-    judged::mask(3);
-    judged::mask(5);
-    judged::mask(7);
-    judged::mask(15);
-    judged::mask(31);
-    judged::mask(63);
-    judged::mask(127);
-    judged::mask(254);
-    judged::mask(255);
+fn print_mask_edges(rt: &impl Print) -> io::Result<()> {
+    judged::mask(rt, 0)?;
+    judged::mask(rt, 1)?;
+    judged::mask(rt, 3)?;
+    judged::mask(rt, 5)?;
+    judged::mask(rt, 7)?;
+    judged::mask(rt, 15)?;
+    judged::mask(rt, 31)?;
+    judged::mask(rt, 63)?;
+    judged::mask(rt, 127)?;
+    judged::mask(rt, 254)?;
+    judged::mask(rt, 255)
 }
 
-fn print_choice_edges() {
-    judged::choice(0);
-    judged::choice(16);
-    judged::choice(32);
-    judged::choice(48);
-    judged::choice(64);
-    judged::choice(80);
-    judged::choice(96);
-    judged::choice(112);
-    judged::choice(143);
+fn print_choice_edges(rt: &impl Print) -> io::Result<()> {
+    judged::choice(rt, 0)?;
+    judged::choice(rt, 16)?;
+    judged::choice(rt, 32)?;
+    judged::choice(rt, 48)?;
+    judged::choice(rt, 64)?;
+    judged::choice(rt, 80)?;
+    judged::choice(rt, 96)?;
+    judged::choice(rt, 112)?;
+    judged::choice(rt, 143)
 }
 
-fn print_tiles_edges() {
-    judged::transparent(15);
-    judged::transparent(16);
-    judged::tilemap(240);
-    judged::tilemap(241);
-    judged::tilemap(8);
-    judged::xhigh(3);
-    judged::xhigh(4);
-    judged::map(63);
-    judged::map(64);
-    judged::definitions(63);
-    judged::definitions(64);
+fn print_tiles_edges(rt: &impl Print) -> io::Result<()> {
+    judged::transparent(rt, 15)?;
+    judged::transparent(rt, 16)?;
+    judged::tilemap(rt, 240)?;
+    judged::tilemap(rt, 241)?;
+    judged::tilemap(rt, 8)?;
+    judged::xhigh(rt, 3)?;
+    judged::xhigh(rt, 4)?;
+    judged::map(rt, 63)?;
+    judged::map(rt, 64)?;
+    judged::definitions(rt, 63)?;
+    judged::definitions(rt, 64)
 }
 
-fn print_rest_edges() {
-    judged::ula_turn(3);
-    judged::ula_turn(4);
-    judged::tilemap_turn(3);
-    judged::tilemap_turn(4);
-    judged::border(7);
-    judged::border(8);
-    judged::select(127);
-    judged::select(128);
-    judged::timex(255);
+fn print_rest_edges(rt: &impl Print) -> io::Result<()> {
+    judged::ula_turn(rt, 3)?;
+    judged::ula_turn(rt, 4)?;
+    judged::tilemap_turn(rt, 3)?;
+    judged::tilemap_turn(rt, 4)?;
+    judged::border(rt, 7)?;
+    judged::border(rt, 8)?;
+    judged::select(rt, 127)?;
+    judged::select(rt, 128)?;
+    judged::timex(rt, 255)
 }
 
-fn print_palette_edges() {
-    judged::ulafirst(511);
-    judged::ulafirst(512);
-    judged::ulasecond(511);
-    judged::ulasecond(512);
-    judged::tilefirst(511);
-    judged::tilefirst(512);
-    judged::tilesecond(511);
-    judged::tilesecond(512);
+fn print_palette_edges(rt: &impl Print) -> io::Result<()> {
+    judged::ulafirst(rt, 511)?;
+    judged::ulafirst(rt, 512)?;
+    judged::ulasecond(rt, 511)?;
+    judged::ulasecond(rt, 512)?;
+    judged::tilefirst(rt, 511)?;
+    judged::tilefirst(rt, 512)?;
+    judged::tilesecond(rt, 511)?;
+    judged::tilesecond(rt, 512)
 }
 
-fn print_held_edges() {
-    judged::none_held(0);
-    judged::none_held(1);
-    judged::held(1);
-    judged::held(255);
+fn print_held_edges(rt: &impl Print) -> io::Result<()> {
+    judged::none_held(rt, 0)?;
+    judged::none_held(rt, 1)?;
+    judged::held(rt, 1)?;
+    judged::held(rt, 255)
 }
 
-pub fn print_edges() {
-    print_ula_edges();
-    print_mask_edges();
-    print_choice_edges();
-    print_held_edges();
-    print_tiles_edges();
-    print_rest_edges();
-    print_palette_edges();
+pub fn print_edges(rt: &impl Print) -> io::Result<()> {
+    print_ula_edges(rt)?;
+    print_mask_edges(rt)?;
+    print_choice_edges(rt)?;
+    print_held_edges(rt)?;
+    print_tiles_edges(rt)?;
+    print_rest_edges(rt)?;
+    print_palette_edges(rt)
 }

@@ -1,6 +1,7 @@
 // The reset state with one field changed, judged. A field has its own function, so that no caller holds a label or a whole state.
 use host::report;
 use state::State;
+use std::io;
 
 // A field of one byte.
 #[derive(Clone, Copy)]
@@ -66,114 +67,114 @@ fn with_colour(t: Table, v: u16) -> State {
     s
 }
 
-fn judge(label: &[u8], v: u64, s: State) {
-    report::word(label);
-    report::word(b" ");
-    report::number(v);
+fn judge(rt: &impl Print, label: &[u8], v: u64, s: State) -> io::Result<()> {
+    report::word(rt, label)?;
+    report::word(rt, b" ")?;
+    report::number(rt, v)?;
     if state::lawful(s) {
-        report::word(b" lawful\n");
+        report::word(rt, b" lawful\n")
     } else {
-        report::word(b" not lawful\n");
+        report::word(rt, b" not lawful\n")
     }
 }
 
-fn byte(label: &[u8], f: Field, v: u8) {
-    judge(label, v as u64, with_byte(f, v));
+fn byte(rt: &impl Print, label: &[u8], f: Field, v: u8) -> io::Result<()> {
+    judge(rt, label, v as u64, with_byte(f, v))
 }
 
-fn colour(label: &[u8], t: Table, v: u16) {
-    judge(label, v as u64, with_colour(t, v));
+fn colour(rt: &impl Print, label: &[u8], t: Table, v: u16) -> io::Result<()> {
+    judge(rt, label, v as u64, with_colour(t, v))
 }
 
-pub fn lores_y(v: u8) {
-    byte(b"$33", Field::LoresY, v);
+pub fn lores_y(rt: &impl Print, v: u8) -> io::Result<()> {
+    byte(rt, b"$33", Field::LoresY, v)
 }
 
-pub fn ula_x(v: u8) {
-    byte(b"$26", Field::UlaX, v);
+pub fn ula_x(rt: &impl Print, v: u8) -> io::Result<()> {
+    byte(rt, b"$26", Field::UlaX, v)
 }
 
-pub fn ula_y(v: u8) {
-    byte(b"$27", Field::UlaY, v);
+pub fn ula_y(rt: &impl Print, v: u8) -> io::Result<()> {
+    byte(rt, b"$27", Field::UlaY, v)
 }
 
-pub fn control(v: u8) {
-    byte(b"$68", Field::UlaControl, v);
+pub fn control(rt: &impl Print, v: u8) -> io::Result<()> {
+    byte(rt, b"$68", Field::UlaControl, v)
 }
 
-pub fn mask(v: u8) {
-    byte(b"$42", Field::Mask, v);
+pub fn mask(rt: &impl Print, v: u8) -> io::Result<()> {
+    byte(rt, b"$42", Field::Mask, v)
 }
 
-pub fn choice(v: u8) {
-    byte(b"$43", Field::Choice, v);
+pub fn choice(rt: &impl Print, v: u8) -> io::Result<()> {
+    byte(rt, b"$43", Field::Choice, v)
 }
 
-pub fn transparent(v: u8) {
-    byte(b"$4C", Field::TileTransparent, v);
+pub fn transparent(rt: &impl Print, v: u8) -> io::Result<()> {
+    byte(rt, b"$4C", Field::TileTransparent, v)
 }
 
-pub fn tilemap(v: u8) {
-    byte(b"$6B", Field::TileControl, v);
+pub fn tilemap(rt: &impl Print, v: u8) -> io::Result<()> {
+    byte(rt, b"$6B", Field::TileControl, v)
 }
 
-pub fn xhigh(v: u8) {
-    byte(b"$2F", Field::XHigh, v);
+pub fn xhigh(rt: &impl Print, v: u8) -> io::Result<()> {
+    byte(rt, b"$2F", Field::XHigh, v)
 }
 
-pub fn map(v: u8) {
-    byte(b"$6E", Field::Map, v);
+pub fn map(rt: &impl Print, v: u8) -> io::Result<()> {
+    byte(rt, b"$6E", Field::Map, v)
 }
 
-pub fn definitions(v: u8) {
-    byte(b"$6F", Field::Definitions, v);
+pub fn definitions(rt: &impl Print, v: u8) -> io::Result<()> {
+    byte(rt, b"$6F", Field::Definitions, v)
 }
 
-pub fn ula_turn(v: u8) {
-    byte(b"ULA turn", Field::UlaTurn, v);
+pub fn ula_turn(rt: &impl Print, v: u8) -> io::Result<()> {
+    byte(rt, b"ULA turn", Field::UlaTurn, v)
 }
 
-pub fn tilemap_turn(v: u8) {
-    byte(b"tilemap turn", Field::TileTurn, v);
+pub fn tilemap_turn(rt: &impl Print, v: u8) -> io::Result<()> {
+    byte(rt, b"tilemap turn", Field::TileTurn, v)
 }
 
-pub fn border(v: u8) {
-    byte(b"border", Field::Border, v);
+pub fn border(rt: &impl Print, v: u8) -> io::Result<()> {
+    byte(rt, b"border", Field::Border, v)
 }
 
-pub fn select(v: u8) {
-    byte(b"$BF3B", Field::Select, v);
+pub fn select(rt: &impl Print, v: u8) -> io::Result<()> {
+    byte(rt, b"$BF3B", Field::Select, v)
 }
 
-pub fn timex(v: u8) {
-    byte(b"$FF", Field::Timex, v);
+pub fn timex(rt: &impl Print, v: u8) -> io::Result<()> {
+    byte(rt, b"$FF", Field::Timex, v)
 }
 
-pub fn ulafirst(v: u16) {
-    colour(b"first ULA palette", Table::UlaFirst, v);
+pub fn ulafirst(rt: &impl Print, v: u16) -> io::Result<()> {
+    colour(rt, b"first ULA palette", Table::UlaFirst, v)
 }
 
-pub fn ulasecond(v: u16) {
-    colour(b"second ULA palette", Table::UlaSecond, v);
+pub fn ulasecond(rt: &impl Print, v: u16) -> io::Result<()> {
+    colour(rt, b"second ULA palette", Table::UlaSecond, v)
 }
 
-pub fn tilefirst(v: u16) {
-    colour(b"first tilemap palette", Table::TileFirst, v);
+pub fn tilefirst(rt: &impl Print, v: u16) -> io::Result<()> {
+    colour(rt, b"first tilemap palette", Table::TileFirst, v)
 }
 
-pub fn tilesecond(v: u16) {
-    colour(b"second tilemap palette", Table::TileSecond, v);
+pub fn tilesecond(rt: &impl Print, v: u16) -> io::Result<()> {
+    colour(rt, b"second tilemap palette", Table::TileSecond, v)
 }
 
-pub fn held(v: u8) {
+pub fn held(rt: &impl Print, v: u8) -> io::Result<()> {
     let mut s = state::reset();
     s.palette.held = true;
     s.palette.half = v;
-    judge(b"held, byte", v as u64, s);
+    judge(rt, b"held, byte", v as u64, s)
 }
 
-pub fn none_held(v: u8) {
+pub fn none_held(rt: &impl Print, v: u8) -> io::Result<()> {
     let mut s = state::reset();
     s.palette.half = v;
-    judge(b"none held, byte", v as u64, s);
+    judge(rt, b"none held, byte", v as u64, s)
 }

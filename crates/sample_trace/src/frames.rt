@@ -5,6 +5,7 @@ use crate::asked::{print_byte, print_number};
 use crate::{screen, unlawful};
 use host::report;
 use state::State;
+use std::io;
 use surface::LineNumber;
 
 fn same_dots(these: &[u16], those: &[u16]) -> bool
@@ -65,45 +66,45 @@ fn all_plain(dots: &[u16]) -> bool
     true
 }
 
-fn print_whether(same: bool) {
+fn print_whether(rt: &impl Print, same: bool) -> io::Result<()> {
     if same {
-        report::word(b" same\n");
+        report::word(rt, b" same\n")
     } else {
-        report::word(b" not the same\n");
+        report::word(rt, b" not the same\n")
     }
 }
 
 // The reply to the whole call; then, where it draws, whether each line is as it is alone; else the first dot, reply and place, which are as
 // they were.
-fn carry_of(label: &[u8], s: State, trace: &[u8]) {
+fn carry_of(rt: &impl Print, label: &[u8], s: State, trace: &[u8]) -> io::Result<()> {
     let bank = [0u8; 16384];
     let mut dots = [65535u16; 163840];
     let mut replies = [255u8; 256];
     let mut places = [65535u16; 256];
     let r = trace::draw_carried(&bank, &bank, s, trace, &mut dots, &mut replies, &mut places);
-    report::word(label);
-    report::word(b", carried:");
-    print_byte(reply::number(r));
+    report::word(rt, label)?;
+    report::word(rt, b", carried:")?;
+    print_byte(rt, reply::number(r))?;
     if reply::number(r) == 0 {
-        print_whether(same_lines(s, trace, &dots, &replies, &places));
+        print_whether(rt, same_lines(s, trace, &dots, &replies, &places))
     } else {
-        print_number(dots[0]);
-        print_byte(replies[0]);
-        print_number(places[0]);
-        report::word(b"\n");
+        print_number(rt, dots[0])?;
+        print_byte(rt, replies[0])?;
+        print_number(rt, places[0])?;
+        report::word(rt, b"\n")
     }
 }
 
-pub fn carry(label: &[u8], trace: &[u8]) {
-    carry_of(label, screen(), trace);
+pub fn carry(rt: &impl Print, label: &[u8], trace: &[u8]) -> io::Result<()> {
+    carry_of(rt, label, screen(), trace)
 }
 
-pub fn carry_unlawful(label: &[u8], trace: &[u8]) {
-    carry_of(label, unlawful(), trace);
+pub fn carry_unlawful(rt: &impl Print, label: &[u8], trace: &[u8]) -> io::Result<()> {
+    carry_of(rt, label, unlawful(), trace)
 }
 
 // Whether each line of a carried drawing is as it is without a trace.
-pub fn carry_plain(label: &[u8], trace: &[u8]) {
+pub fn carry_plain(rt: &impl Print, label: &[u8], trace: &[u8]) -> io::Result<()> {
     let bank = [0u8; 16384];
     let mut dots = [65535u16; 163840];
     let mut replies = [255u8; 256];
@@ -117,7 +118,7 @@ pub fn carry_plain(label: &[u8], trace: &[u8]) {
         &mut replies,
         &mut places,
     );
-    report::word(label);
-    report::word(b", as without a trace:");
-    print_whether(all_plain(&dots));
+    report::word(rt, label)?;
+    report::word(rt, b", as without a trace:")?;
+    print_whether(rt, all_plain(&dots))
 }

@@ -1,9 +1,6 @@
 -- What was seen so far is the mark, so that the rest tells of the whole.
-use Prim.Native.Nat.{◌≤◌, ◌-◌}
 use native.Mathlib.Omega.{arith}
-use mathlib.Core.Path.{◌≡◌, refl}
-use lib.ListN.{length, drop}
-use Rattle.host.specs.Marks.{all_marked}
+use mathlib.Core.Path.{refl}
 use Rattle.host.proofs.Marked.{marks-more, marks-less, marks-end}
 use borrow.Author.Rules.{rules}
 use Rattle.host.proofs.marks.untouched.Goals as goal

@@ -1,0 +1,11 @@
+use Rattle.std.proofs.Common.{◌≤◌, sym, ap, ◌∙◌, length, arith}
+use Rattle.line_sums.specs.Adler.{joined, line_sum}
+use Rattle.line_sums.proofs.Turn.{ended}
+use Rattle.line_sums.proofs.adler.line_sum.Goals as goal
+
+pub returns : goal.returns
+unfolding line_sum
+returns c =
+    let h = c.loop-i in
+    let p : length c.args.dots.now ≤ h.i = omega arith in
+    ap joined (sym (ended c.args.dots.now h.i h.s p) ∙ h.invariant.3)
