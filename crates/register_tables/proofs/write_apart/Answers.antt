@@ -1,4 +1,5 @@
--- One line for each register: what a write to registers alone does, it does to the state with its palettes.
+-- One line for each register: what a write to registers alone does, it does to the state with its palettes. Four lines name no callee, so that an
+-- edit that exchanges two callees is refused for what they do.
 use mathlib.Core.Path.{refl}
 use borrow.Author.Tests.{ne_eqb}
 use Rattle.register_tables.proofs.Apart.{bare-arm, no_arm}
@@ -21,14 +22,10 @@ returns-in-21 c =
     bare-arm a.g _ _ _ _ a.number 0x15 a.value _ c.in-21.is refl refl c.write_layers.ensures
 
 pub returns-in-26 : goal.returns-in-26
-returns-in-26 c =
-    let a = c.args in
-    bare-arm a.g _ _ _ _ a.number 0x1A a.value _ c.in-26.is refl refl c.write_ula_clip.ensures
+returns-in-26 c = search (rules, bare-arm)
 
 pub returns-in-27 : goal.returns-in-27
-returns-in-27 c =
-    let a = c.args in
-    bare-arm a.g _ _ _ _ a.number 0x1B a.value _ c.in-27.is refl refl c.write_tile_clip.ensures
+returns-in-27 c = search (rules, bare-arm)
 
 pub returns-in-28 : goal.returns-in-28
 returns-in-28 c =
@@ -36,14 +33,10 @@ returns-in-28 c =
     bare-arm a.g _ _ _ _ a.number 0x1C a.value _ c.in-28.is refl refl c.write_turns.ensures
 
 pub returns-in-38 : goal.returns-in-38
-returns-in-38 c =
-    let a = c.args in
-    bare-arm a.g _ _ _ _ a.number 0x26 a.value _ c.in-38.is refl refl c.write_ula_x.ensures
+returns-in-38 c = search (rules, bare-arm)
 
 pub returns-in-39 : goal.returns-in-39
-returns-in-39 c =
-    let a = c.args in
-    bare-arm a.g _ _ _ _ a.number 0x27 a.value _ c.in-39.is refl refl c.write_ula_y.ensures
+returns-in-39 c = search (rules, bare-arm)
 
 pub returns-in-47 : goal.returns-in-47
 returns-in-47 c =
