@@ -1,10 +1,7 @@
 // What is wrong, in lines on standard error that begin with the program's name.
+pub use crate::report::word as say;
 use reply::{Reply, number};
 use std::io;
-
-pub fn say(err: &impl Print, text: &[u8]) -> io::Result<()> {
-    err.write_all(text)
-}
 
 pub fn missing(err: &impl Print, program: &[u8], path: &[u8]) -> io::Result<()> {
     say(err, program)?;

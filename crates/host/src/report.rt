@@ -1,24 +1,24 @@
-// Words, numbers and line ends on standard output.
+// Words, numbers and line ends on the stream that is passed.
 use std::io;
 
-pub fn word(rt: &impl Print, text: &[u8]) -> io::Result<()> {
-    rt.write_all(text)
+pub fn word(to: &impl Print, text: &[u8]) -> io::Result<()> {
+    to.write_all(text)
 }
 
-pub fn number(rt: &impl Print, n: u64) -> io::Result<()> {
-    rt.print(n)
+pub fn number(to: &impl Print, n: u64) -> io::Result<()> {
+    to.print(n)
 }
 
 // In hexadecimal, with zeros in front up to a width, of at most 16.
-pub fn hex(rt: &impl Print, n: u64, width: usize) -> io::Result<()> {
+pub fn hex(to: &impl Print, n: u64, width: usize) -> io::Result<()> {
     let width = width.min(16);
-    print!(rt; "{n:0width$x}")
+    print!(to; "{n:0width$x}")
 }
 
 // A line `label N`.
-pub fn row(rt: &impl Print, label: &[u8], n: u64) -> io::Result<()> {
-    word(rt, label)?;
-    word(rt, b" ")?;
-    number(rt, n)?;
-    word(rt, b"\n")
+pub fn row(to: &impl Print, label: &[u8], n: u64) -> io::Result<()> {
+    word(to, label)?;
+    word(to, b" ")?;
+    number(to, n)?;
+    word(to, b"\n")
 }

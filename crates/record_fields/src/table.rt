@@ -2,14 +2,11 @@
 // version 2; those of which any byte will do are never told.
 use crate::parts::{current_place, part_at};
 use host::complaints;
+use host::report::word;
 use record_layout::Version;
 use record_places::{added, in_version, places};
 use reply::Reply;
 use std::io;
-
-fn word(to: &impl Print, text: &[u8]) -> io::Result<()> {
-    to.write_all(text)
-}
 
 // The parts before $26.
 fn tell_before_scrolls(to: &impl Print, part: usize) -> io::Result<()> {
