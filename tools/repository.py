@@ -7,7 +7,7 @@ from pathlib import Path
 
 ROOT = Path(__file__).resolve().parent.parent
 CRATES = ROOT / "crates"
-NAME = r"[\w·'-]+"
+NAME = r"[\w'-]+"
 RULE = r"\d+\.\d+"
 
 
