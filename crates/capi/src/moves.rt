@@ -4,8 +4,6 @@ ghost use Rattle.reply.specs.Reply.{reply_number};
 ghost use Rattle.record_layout.specs.declared.Version.TheVariants.{Version1, Version2};
 ghost use Rattle.record_moves.specs.Moves.{move_reply, move_place, moved_in};
 
-use reply::number;
-
 // Puts the record of version 2 of the state in the old record `bytes` into `target`: its $26 and $27 are $32 and $33.
 // Refused by 3 (`target` is not 2,152 bytes), 16, 17 (a record of version 2 too) or 18, in this order, it leaves `target`. `place` becomes
 // the place that 16, 17 or 18 tells, else 0.
@@ -18,7 +16,7 @@ pub extern "C" fn narephon_move_up(bytes: &[u8], target: &mut [u8], place: &mut 
     let moved = record_moves::move_up(bytes, target);
     *place = moved.place as u32;
     let r = moved.reply;
-    number(r)
+    u8::from(r)
 }
 
 // Puts the record of version 1 of the state in the record `bytes`, which is of version 2, into `target`.
@@ -33,5 +31,5 @@ pub extern "C" fn narephon_move_back(bytes: &[u8], target: &mut [u8], place: &mu
     let back = record_moves::move_back(bytes, target);
     *place = back.place as u32;
     let r = back.reply;
-    number(r)
+    u8::from(r)
 }

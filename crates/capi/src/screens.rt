@@ -6,8 +6,6 @@ ghost use Rattle.scr.specs.Reads.{bank_after};
 ghost use Rattle.scr.specs.Writes.{written_answer, file_after};
 ghost use Rattle.lent_scr.specs.Screens.{lent_read_reply, screen_read, record_after, lent_write_reply};
 
-use reply::number;
-
 // Reads a screen file into `bank` and into the state in the record `bytes`; `colours` becomes the place of the file's 64 colours in it,
 // 0 where it has none. Refused by 2, 16, 17, 18 or 14, in this order, it leaves record and bank and sets `colours` to 0.
 #[unsafe(no_mangle)]
@@ -25,7 +23,7 @@ pub extern "C" fn narephon_read_scr(
     let read = lent_scr::read_scr_record(bytes, bank, file);
     *colours = read.colours as u32;
     let r = read.reply;
-    number(r)
+    u8::from(r)
 }
 
 // Writes the screen of the state in the record `bytes` and `bank` into the front of `file`, which is 12,353 bytes; `length` becomes how
@@ -45,5 +43,5 @@ pub extern "C" fn narephon_write_scr(
     let written = lent_scr::write_scr_record(bytes, bank, file);
     *length = written.length as u32;
     let r = written.reply;
-    number(r)
+    u8::from(r)
 }

@@ -10,7 +10,7 @@ ghost use Rattle.desk.specs.Desk.{desk_call};
 ghost use Rattle.surface.specs.Lines.{numbered};
 
 use lent::{Change, Query};
-use reply::number;
+use reply::reply_of;
 use surface::LineNumber;
 
 // Makes an empty desk of `desk`, whatever the bytes hold; there only have to be 34,480 of them. Any other length is 3 and leaves them.
@@ -18,7 +18,7 @@ use surface::LineNumber;
 pub extern "C" fn narephon_desk_start(desk: &mut [u8]) -> u8
     ensures { (result ≡ reply_number (start_reply desk.old)) × (desk.new ≡ started desk.old) }
 {
-    number(desk::start(desk))
+    u8::from(desk::start(desk))
 }
 
 // Gives the member the first free seat, with the reset state. Refused by 21, 22 or 24.
@@ -27,7 +27,7 @@ pub extern "C" fn narephon_desk_open(desk: &mut [u8], member: u16) -> u8
     ensures { (result ≡ reply_number (desk_call desk.old member opening).outcome.reply)
         × (desk.new ≡ (desk_call desk.old member opening).desk) }
 {
-    number(desk::open(desk, member))
+    u8::from(desk::open(desk, member))
 }
 
 // Makes every byte of the member's seat 0. Refused by 21 or 23.
@@ -36,7 +36,7 @@ pub extern "C" fn narephon_desk_close(desk: &mut [u8], member: u16) -> u8
     ensures { (result ≡ reply_number (desk_call desk.old member closing).outcome.reply)
         × (desk.new ≡ (desk_call desk.old member closing).desk) }
 {
-    number(desk::close(desk, member))
+    u8::from(desk::close(desk, member))
 }
 
 // Moves the member's state one frame on. Refused by 21 or 23.
@@ -45,7 +45,7 @@ pub extern "C" fn narephon_desk_next_frame(desk: &mut [u8], member: u16) -> u8
     ensures { (result ≡ reply_number (desk_call desk.old member (changing NextFrame)).outcome.reply)
         × (desk.new ≡ (desk_call desk.old member (changing NextFrame)).desk) }
 {
-    number(desk::change(desk, member, Change::NextFrame))
+    u8::from(desk::change(desk, member, Change::NextFrame))
 }
 
 // Writes `value` to the register of this number, in the member's state. Refused by 21, 23, 9 or 10.
@@ -59,7 +59,7 @@ pub extern "C" fn narephon_desk_write_register(
     ensures { (result ≡ reply_number (desk_call desk.old member (changing (Register register value))).outcome.reply)
         × (desk.new ≡ (desk_call desk.old member (changing (Register register value))).desk) }
 {
-    number(desk::change(desk, member, Change::Register(register, value)))
+    u8::from(desk::change(desk, member, Change::Register(register, value)))
 }
 
 // Writes `value` to the port of this whole number, in the member's state. Refused by 21, 23, 9 or 10.
@@ -68,7 +68,7 @@ pub extern "C" fn narephon_desk_write_port(desk: &mut [u8], member: u16, port: u
     ensures { (result ≡ reply_number (desk_call desk.old member (changing (Port port value))).outcome.reply)
         × (desk.new ≡ (desk_call desk.old member (changing (Port port value))).desk) }
 {
-    number(desk::change(desk, member, Change::Port(port, value)))
+    u8::from(desk::change(desk, member, Change::Port(port, value)))
 }
 
 // Reads the register of this number in the member's state into `value`. Refused by 21, 23 or 9, it sets `value` to 0.
@@ -83,9 +83,8 @@ pub extern "C" fn narephon_desk_read_register(
         × (value.new ≡ (desk_call desk.now member (asking (asked.Register register))).outcome.value) }
 {
     let got = desk::query(desk, member, Query::Register(register));
-    *value = got.value;
-    let r = got.reply;
-    number(r)
+    *value = got.unwrap_or(0);
+    u8::from(reply_of(got))
 }
 
 // Reads the port of this whole number in the member's state into `value`. Refused by 21, 23 or 9, it sets `value` to 0.
@@ -95,9 +94,8 @@ pub extern "C" fn narephon_desk_read_port(desk: &[u8], member: u16, port: u16, v
         × (value.new ≡ (desk_call desk.now member (asking (asked.Port port))).outcome.value) }
 {
     let got = desk::query(desk, member, Query::Port(port));
-    *value = got.value;
-    let r = got.reply;
-    number(r)
+    *value = got.unwrap_or(0);
+    u8::from(reply_of(got))
 }
 
 // Draws a line of the member's state as `narephon_draw` does. Refused by 21, 23, 1, 2, 3, 6, 7, 5 or 8, in this order, it leaves `dots`.
@@ -114,5 +112,5 @@ pub extern "C" fn narephon_desk_draw(
         × (dots.new ≡ (desk_call desk.now member (drawing (numbered line) ula.now tile.now dots.old)).outcome.dots) }
 {
     let r = desk::draw(desk, member, ula, tile, LineNumber(line as usize), dots);
-    number(r)
+    u8::from(r)
 }

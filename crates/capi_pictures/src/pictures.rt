@@ -2,25 +2,25 @@
 ghost use Rattle.std.specs.Prelude.{◌≡◌, length};
 ghost use Rattle.reply.specs.Reply.{reply_number};
 ghost use Rattle.colour.specs.Screen.{screen_answer};
+ghost use Rattle.reply.specs.Answered.{reply_of, value_of};
 ghost use Rattle.capi_pictures.specs.Packed.{LentPacked, LentFewest};
 ghost use Rattle.lent_drawing.specs.Drawn.{lent_draw_reply, lent_drawn};
 ghost use Rattle.lent_layers.specs.Lent.{lent_layers_reply, lent_layered};
 ghost use Rattle.surface.specs.Lines.{numbered};
 
 use lent_layers::draw_layers_record;
-use reply::number;
+use reply::reply_of;
 use surface::LineNumber;
 
 // Puts the screen value of a nine-bit colour into `value`: red × 65,536 + green × 256 + blue.
 // A colour above 511 is 10 and sets `value` to 0.
 #[unsafe(no_mangle)]
 pub extern "C" fn narephon_screen_value(colour: u32, value: &mut u32) -> u8
-    ensures { (result ≡ reply_number (screen_answer colour).reply) × (value.new ≡ (screen_answer colour).value) }
+    ensures { (result ≡ reply_number (reply_of (screen_answer colour))) × (value.new ≡ value_of (screen_answer colour)) }
 {
     let screen = colour::screen_value(colour);
-    *value = screen.value;
-    let r = screen.reply;
-    number(r)
+    *value = screen.unwrap_or(0);
+    u8::from(reply_of(screen))
 }
 
 // Draws a line, 0 to 255, of the state in the record `bytes` over the two banks, as 640 nine-bit colours in `dots`.
@@ -38,7 +38,7 @@ pub extern "C" fn narephon_draw(
         × (dots.new ≡ lent_drawn (numbered line) ula.now tile.now dots.old bytes.now) }
 {
     let r = lent::draw_record(bytes, ula, tile, LineNumber(line as usize), dots);
-    number(r)
+    u8::from(r)
 }
 
 // Draws a line as `narephon_draw` does and composes it, in the order of $15 bits 4-2, with the finished lines `layer2` and `sprites` of 640
@@ -66,7 +66,7 @@ pub extern "C" fn narephon_draw_layers(
         LineNumber(line as usize),
         dots,
     );
-    number(r)
+    u8::from(r)
 }
 
 // Packs a picture into `map` and `definitions` with the fewest tiles there can be, at most `allowed` of them, every entry with
@@ -84,9 +84,8 @@ pub extern "C" fn narephon_pack(
     ensures { LentPacked picture.now allowed offset map.old definitions.old map.new definitions.new count.new result }
 {
     let packing = packer::pack(picture, allowed as usize, offset as usize, map, definitions);
-    *count = packing.count as u32;
-    let r = packing.reply;
-    number(r)
+    *count = packing.unwrap_or(0) as u32;
+    u8::from(reply_of(packing))
 }
 
 // Puts the fewest tiles that draw a picture into `count`: what a packing with 256 allowed counts, without its buffers.
@@ -96,7 +95,6 @@ pub extern "C" fn narephon_fewest(picture: &[u8], count: &mut u32) -> u8
     ensures { LentFewest picture.now count.new result }
 {
     let fewest = packer::fewest(picture);
-    *count = fewest.count as u32;
-    let r = fewest.reply;
-    number(r)
+    *count = fewest.unwrap_or(0) as u32;
+    u8::from(reply_of(fewest))
 }

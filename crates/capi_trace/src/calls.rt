@@ -5,7 +5,6 @@ ghost use Rattle.surface.specs.Lines.{numbered};
 ghost use Rattle.line_replies.specs.Replies.{drawn_if};
 ghost use Rattle.lent_trace.specs.Lent.{lent_traced, lent_traced_dots, lent_whole, lent_carried_dots, lent_replies, lent_places};
 
-use reply::number;
 use surface::LineNumber;
 
 // Draws line `line` of the state in the record `bytes`, after every entry of `trace` stamped with this line or less, into the 640 numbers of `dots`. Refused by
@@ -35,7 +34,7 @@ pub extern "C" fn narephon_draw_traced(
     );
     *place = got.place as u32;
     let r = got.reply;
-    number(r)
+    u8::from(r)
 }
 
 // Draws lines 0 to 255 of the state in the record `bytes` one after the other into the 163,840 numbers of `dots`, with the state carried along, and puts each line's
@@ -60,5 +59,5 @@ pub extern "C" fn narephon_draw_carried(
         (lent_places bytes.now trace.now) places.old) }
 {
     let r = lent_trace::draw_carried_record(bytes, trace, ula, tile, dots, replies, places);
-    number(r)
+    u8::from(r)
 }

@@ -1,7 +1,7 @@
 -- Rules 6.1, 6.2, 9.10, 10.8 and 12.3: the screen value of a colour.
-use Rattle.std.specs.Prelude.{ℕ, ◌+◌, ◌*◌, ◌/◌, ◌%◌, cond, leb}
-use Rattle.reply.specs.declared.Reply.TheVariants.{Done, OutOfBounds}
-use Rattle.colour.specs.declared.screen.Screen.{Screen}
+use Rattle.std.specs.Prelude.{ℕ, ◌+◌, ◌*◌, ◌/◌, ◌%◌, cond, leb, Result, Ok, Err}
+use Rattle.reply.specs.declared.Reply.{Reply}
+use Rattle.reply.specs.declared.Reply.TheVariants.{OutOfBounds}
 
 -- each three-bit part hml becomes hmlhmlml
 abbrev pub eight_bits : ℕ → ℕ
@@ -11,6 +11,6 @@ eight_bits v = v * 32 + v * 4 + v % 4
 abbrev pub screen_of : ℕ → ℕ
 screen_of c = eight_bits (c / 64) * 65536 + eight_bits (c / 8 % 8) * 256 + eight_bits (c % 8)
 
--- screen value: 10 above 511, giving 0
-unfoldable pub screen_answer : ℕ → Screen
-screen_answer c = cond (leb c 511) (record { reply = Done; value = screen_of c }) (record { reply = OutOfBounds; value = 0 })
+-- screen value: 10 above 511
+unfoldable pub screen_answer : ℕ → Result ℕ Reply
+screen_answer c = cond (leb c 511) (Ok (screen_of c)) (Err OutOfBounds)

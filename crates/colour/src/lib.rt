@@ -6,4 +6,4 @@ mod screen;
 mod table;
 
 pub use bytes::{plus_colour, widen};
-pub use screen::{Screen, screen_value};
+pub use screen::screen_value;

@@ -5,13 +5,6 @@ ghost use Rattle.colour.specs.Screen.{screen_of, screen_answer};
 use crate::table::SCREEN;
 use reply::Reply;
 
-// A colour's value for a screen, or the reply that refuses it.
-#[derive(Clone, Copy)]
-pub struct Screen {
-    pub reply: Reply,
-    pub value: u32,
-}
-
 fn entry(c: usize) -> u32
     requires { c ≤ 511 }
     ensures { result ≡ screen_of c }
@@ -19,19 +12,13 @@ fn entry(c: usize) -> u32
     SCREEN[c]
 }
 
-pub fn screen_value(colour: u32) -> Screen
+// A colour's value for a screen, or the reply that refuses it.
+pub fn screen_value(colour: u32) -> Result<u32, Reply>
     ensures { result ≡ screen_answer colour }
 {
     if colour <= 511 {
-        let value = entry(colour as usize);
-        Screen {
-            reply: Reply::Done,
-            value,
-        }
+        Ok(entry(colour as usize))
     } else {
-        Screen {
-            reply: Reply::OutOfBounds,
-            value: 0,
-        }
+        Err(Reply::OutOfBounds)
     }
 }

@@ -6,27 +6,32 @@ use mathlib.Core.List.{List, ◌++◌}
 use native.Mathlib.Omega.{arith}
 use lib.ListN.{length, take, drop}
 use borrow.Author.Tests.{lt-ltb}
+use Rattle.std.specs.Prelude.{Ok, Err}
 use Rattle.lists.specs.Placed.{placed}
 use Rattle.lists.specs.Tab.{tab}
 use Rattle.lists.proofs.Tab.{tab-zeros}
 use Rattle.lists.proofs.Cuts.{cut-length}
 use Rattle.lists.proofs.Placed.{placed-lent}
+use Rattle.lists.proofs.Cond.{if-false}
 use Rattle.reply.specs.declared.Reply.{Reply}
 use Rattle.reply.specs.declared.Reply.TheVariants.{Done}
+use Rattle.reply.specs.Reply.{is_done}
 use Rattle.state.specs.Reset.{reset_state}
 use Rattle.surface.specs.declared.lines.LineNumber.{LineNumber}
-use Rattle.register_answers.specs.declared.Reading.{Reading}
+use Rattle.register_answers.specs.Answers.{Reading, answered}
+use Rattle.reply.specs.Answered.{value_of}
 use Rattle.record_layout.specs.Record.{record_of}
 use Rattle.lent_drawing.specs.Drawn.{lent_draw_reply, lent_drawn}
 use Rattle.lent.specs.declared.changes.Change.{Change}
 use Rattle.lent.specs.declared.queries.Query.{Query}
 use Rattle.lent.specs.Calls.{changed, asked}
 use Rattle.lent.specs.Lent.{lent_answer, lent_after, lent_reading}
+use Rattle.lent.proofs.Exits.{lent-told}
 use Rattle.desk_seats.specs.Seats.{seats, seat_length, zeros, seat_at, seat_of}
 use Rattle.desk_places.specs.Desks.{well_formed, free_of, has_room}
 use Rattle.desk_seats.proofs.Cuts.{record-lent}
 use Rattle.desk_places.proofs.Judged.{formed-long}
-use Rattle.desk_places.proofs.Found.{SitsAt, Unplaced, room-free, FreeAt, Unopened}
+use Rattle.desk_places.proofs.Found.{SitsAt, Unplaced, not-formed, not-seated, room-free, FreeAt, Unopened}
 use Rattle.desk.specs.Own.{Call, opening, closing, changing, asking, drawing, line_of, is_opening, away_call}
 use Rattle.desk.specs.Desk.{DeskResult, desk_call, settled_by}
 use Rattle.desk.proofs.Exits.{refused_by, refused-call, refused-opening, away-call, settled-new, seated-call, settled_here, settled-gone}
@@ -43,6 +48,15 @@ ends d m c a e = (ap (λ (x : DeskResult). x.outcome.reply) (sym e), ap (λ (x :
 pub opening-left : (d : List ℕ) (m : ℕ) (r : Reply) → Unopened d m r → Ends d m opening r d
 opening-left d m r u = ends d m opening (refused_by r d opening) (refused-opening d m r u)
 
+not-done : (d : List ℕ) (m : ℕ) (r : Reply) → Unplaced d m r → is_done r ≡ false
+not-done d m r (not-formed w e) = ap is_done (sym e)
+not-done d m r (not-seated w n e) = ap is_done (sym e)
+
+-- a reading of member m of desk d that says what the call c answers
+abbrev Reads : List ℕ → ℕ → Call → Reading → Type 0
+Reads d m c a =
+    (a ≡ answered (desk_call d m c).outcome.reply (desk_call d m c).outcome.value) × (value_of a ≡ (desk_call d m c).outcome.value)
+
 module _ (d : List ℕ) (m : ℕ) (r : Reply) (c : Call) (o : is_opening c ≡ false) (u : Unplaced d m r) where
   refusal_is : refused_by r d c ≡ desk_call d m c
   refusal_is = sym (refused-call d m r c o u)
@@ -50,8 +64,11 @@ module _ (d : List ℕ) (m : ℕ) (r : Reply) (c : Call) (o : is_opening c ≡ f
   pub desk-left : Ends d m c r d
   desk-left = ends d m c (refused_by r d c) (sym refusal_is)
 
-  pub value_none : (r ≡ (desk_call d m c).outcome.reply) × (0 ≡ (desk_call d m c).outcome.value)
-  value_none = (ap (λ (x : DeskResult). x.outcome.reply) refusal_is, ap (λ (x : DeskResult). x.outcome.value) refusal_is)
+  pub value_none : Reads d m c (Err r)
+  value_none = (
+    sym (if-false (is_done r) (Ok 0) (Err r) (not-done d m r u)) ∙ ap (λ (x : DeskResult). answered x.outcome.reply x.outcome.value) refusal_is,
+    ap (λ (x : DeskResult). x.outcome.value) refusal_is,
+  )
 
   pub line-left : (r ≡ (desk_call d m c).outcome.reply) × (line_of c ≡ (desk_call d m c).outcome.dots)
   line-left = (ap (λ (x : DeskResult). x.outcome.reply) refusal_is, ap (λ (x : DeskResult). x.outcome.dots) refusal_is)
@@ -126,13 +143,12 @@ module _ (d : List ℕ) (m i : ℕ) (s : SitsAt d m i) where
 
   -- a question to the record in the seat, and a line of it
   module _ (b : List ℕ) (f : b ≡ drop 3 (seat_at d i)) where
-    pub exit-asked : (q : Query) (r : Reading) → r ≡ lent_reading (asked q) b
-        → (r.reply ≡ (desk_call d m (asking q)).outcome.reply) × (r.value ≡ (desk_call d m (asking q)).outcome.value)
+    pub exit-asked : (q : Query) (r : Reading) → r ≡ lent_reading (asked q) b → Reads d m (asking q) r
     exit-asked q r h =
         let e = sym (seated-call d s.formed m i s.below s.place (asking q)) in
         let k = h ∙ ap (lent_reading (asked q)) f in (
-          ap (λ (x : Reading). x.reply) k ∙ ap (λ (x : DeskResult). x.outcome.reply) e,
-          ap (λ (x : Reading). x.value) k ∙ ap (λ (x : DeskResult). x.outcome.value) e,
+          k ∙ sym (lent-told q (drop 3 (seat_at d i))) ∙ ap (λ (x : DeskResult). answered x.outcome.reply x.outcome.value) e,
+          ap value_of k ∙ ap (λ (x : DeskResult). x.outcome.value) e,
         )
 
     pub exit-drawn : (line : LineNumber) (ula tile dots : List ℕ) (r : Reply) (ys : List ℕ)

@@ -5,6 +5,7 @@ use Rattle.reply.specs.declared.Reply.{Reply}
 use Rattle.reply.specs.declared.Reply.TheVariants.{Done, AlreadyOpen, NotOpen, DeskFull}
 use Rattle.state.specs.Reset.{reset_state}
 use Rattle.surface.specs.declared.lines.LineNumber.{LineNumber}
+use Rattle.reply.specs.Answered.{reply_of, value_of}
 use Rattle.record_layout.specs.Record.{record_of}
 use Rattle.lent_drawing.specs.Drawn.{lent_draw_reply, lent_drawn}
 use Rattle.lent.specs.declared.changes.Change.{Change}
@@ -62,7 +63,7 @@ seated_call b closing = record { outcome = replied Done closing; own = away }
 seated_call b (changing c) =
     let a = lent_answer (changed c) b in record { outcome = replied a.reply (changing c); own = here (lent_after b a) }
 seated_call b (asking q) =
-    let r = lent_reading (asked q) b in record { outcome = record { reply = r.reply; value = r.value; dots = [] }; own = here b }
+    let r = lent_reading (asked q) b in record { outcome = record { reply = reply_of r; value = value_of r; dots = [] }; own = here b }
 seated_call b (drawing line ula tile dots) =
     record {
       outcome = record {

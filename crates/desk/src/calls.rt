@@ -2,11 +2,12 @@
 ghost use Rattle.std.specs.Prelude.{◌≡◌};
 ghost use Rattle.desk.specs.Own.{changing, asking, drawing};
 ghost use Rattle.desk.specs.Desk.{desk_call};
+ghost use Rattle.register_answers.specs.Answers.{answered};
+ghost use Rattle.reply.specs.Answered.{value_of};
 
-use desk_places::{Place, find};
+use desk_places::find;
 use desk_seats::{SEAT, record_at};
 use lent::{Change, Query};
-use register_answers::Reading;
 use reply::Reply;
 use surface::LineNumber;
 
@@ -16,8 +17,8 @@ pub fn change(desk: &mut [u8], member: u16, c: Change) -> Reply
         × (desk.new ≡ (desk_call desk.old member (changing c)).desk) }
 {
     match find(desk, member) {
-        Place::Refused(r) => r,
-        Place::At(i) => {
+        Err(r) => r,
+        Ok(i) => {
             let at = i * SEAT + 3;
             let end = i * SEAT + SEAT;
             lent::change_record(&mut desk[at..end], c)
@@ -25,14 +26,14 @@ pub fn change(desk: &mut [u8], member: u16, c: Change) -> Reply
     }
 }
 
-// A register or a port read; or 21, 23 or the refusal of the question, and 0. The desk is only looked at.
-pub fn query(desk: &[u8], member: u16, q: Query) -> Reading
-    ensures { (result.reply ≡ (desk_call desk.now member (asking q)).outcome.reply)
-        × (result.value ≡ (desk_call desk.now member (asking q)).outcome.value) }
+// A register or a port read; or 21, 23 or the refusal of the question. The desk is only looked at.
+pub fn query(desk: &[u8], member: u16, q: Query) -> Result<u8, Reply>
+    ensures { (result ≡ answered (desk_call desk.now member (asking q)).outcome.reply (desk_call desk.now member (asking q)).outcome.value)
+        × (value_of result ≡ (desk_call desk.now member (asking q)).outcome.value) }
 {
     match find(desk, member) {
-        Place::Refused(reply) => Reading { reply, value: 0 },
-        Place::At(i) => lent::query_record(record_at(desk, i), q),
+        Err(r) => Err(r),
+        Ok(i) => lent::query_record(record_at(desk, i), q),
     }
 }
 
@@ -49,7 +50,7 @@ pub fn draw(
         × (dots.new ≡ (desk_call desk.now member (drawing line ula.now tile.now dots.old)).outcome.dots) }
 {
     match find(desk, member) {
-        Place::Refused(r) => r,
-        Place::At(i) => lent::draw_record(record_at(desk, i), ula, tile, line, dots),
+        Err(r) => r,
+        Ok(i) => lent::draw_record(record_at(desk, i), ula, tile, line, dots),
     }
 }

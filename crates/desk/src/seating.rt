@@ -3,7 +3,7 @@ ghost use Rattle.std.specs.Prelude.{◌≡◌};
 ghost use Rattle.desk.specs.Own.{opening, closing};
 ghost use Rattle.desk.specs.Desk.{desk_call};
 
-use desk_places::{Place, find, find_free};
+use desk_places::{find, find_free};
 use desk_seats::{SEAT, take_seat};
 use lists::zero;
 use reply::Reply;
@@ -14,8 +14,8 @@ pub fn open(desk: &mut [u8], member: u16) -> Reply
         × (desk.new ≡ (desk_call desk.old member opening).desk) }
 {
     match find_free(desk, member) {
-        Place::Refused(r) => r,
-        Place::At(i) => {
+        Err(r) => r,
+        Ok(i) => {
             let at = i * SEAT;
             let end = at + SEAT;
             take_seat(&mut desk[at..end], member);
@@ -30,8 +30,8 @@ pub fn close(desk: &mut [u8], member: u16) -> Reply
         × (desk.new ≡ (desk_call desk.old member closing).desk) }
 {
     match find(desk, member) {
-        Place::Refused(r) => r,
-        Place::At(i) => {
+        Err(r) => r,
+        Ok(i) => {
             let at = i * SEAT;
             let end = at + SEAT;
             zero(&mut desk[at..end]);

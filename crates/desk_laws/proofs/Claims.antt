@@ -19,7 +19,7 @@ use Rattle.reply.proofs.Done.{is-refused, test-met}
 use Rattle.state.specs.declared.State.{State}
 use Rattle.state.specs.declared.Answer.{Answer}
 use Rattle.surface.specs.declared.lines.LineNumber.{LineNumber}
-use Rattle.register_answers.specs.declared.Reading.{Reading}
+use Rattle.reply.specs.Answered.{reply_of, value_of}
 use Rattle.register_laws.specs.Claims.{NineTwice}
 use Rattle.register_laws.proofs.Claims.{nine_twice}
 use Rattle.record_layout.specs.Record.{record_of}
@@ -250,7 +250,7 @@ base_calls = record {
       λ d m s q k h.
       let e = state-call d m s k h (asking q) in
       let r = reading-is s h.typed h.lawful (asked q) in
-      (ap (λ (a : DeskResult). a.outcome.reply) e ∙ ap (λ (a : Reading). a.reply) r, ap (λ (a : DeskResult). a.outcome.value) e ∙ ap (λ (a : Reading). a.value) r);
+      (ap (λ (a : DeskResult). a.outcome.reply) e ∙ ap reply_of r, ap (λ (a : DeskResult). a.outcome.value) e ∙ ap value_of r);
   drawings =
       λ d m s line ula tile dots k h.
       let e = state-call d m s k h (drawing line ula tile dots) in (

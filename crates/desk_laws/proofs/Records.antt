@@ -20,7 +20,7 @@ use Rattle.state.specs.Typed.{Typed}
 use Rattle.state.proofs.Claims.{reset_lawful}
 use Rattle.frame.proofs.Claims.{frame-done}
 use Rattle.surface.specs.declared.lines.LineNumber.{LineNumber}
-use Rattle.register_answers.specs.declared.Reading.{Reading}
+use Rattle.register_answers.specs.Answers.{Reading}
 use Rattle.register_laws.specs.Claims.{RefusedSame}
 use Rattle.register_laws.proofs.Claims.{refused_same}
 use Rattle.record_layout.specs.declared.RecordRead.{RecordRead}

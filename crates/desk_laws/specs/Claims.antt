@@ -7,6 +7,7 @@ use Rattle.state.specs.declared.State.{State}
 use Rattle.state.specs.Lawful.{lawful_state}
 use Rattle.state.specs.Typed.{Typed}
 use Rattle.surface.specs.declared.lines.LineNumber.{LineNumber}
+use Rattle.reply.specs.Answered.{reply_of, value_of}
 use Rattle.register_laws.specs.Claims.{with_colour}
 use Rattle.record_layout.specs.Record.{record_of}
 use Rattle.line_replies.specs.Replies.{draw_reply, drawn_if}
@@ -71,7 +72,7 @@ pub record BaseCalls : Type 0 where
       → ((desk_call d m (changing c)).outcome.reply ≡ (changed c s).reply)
       × HasState (desk_call d m (changing c)).desk m (changed c s).state
   pub questions : (d : List ℕ) (m : ℕ) (s : State) (q : Query) → IsDesk d → HasState d m s
-      → ((desk_call d m (asking q)).outcome.reply ≡ (asked q s).reply) × ((desk_call d m (asking q)).outcome.value ≡ (asked q s).value)
+      → ((desk_call d m (asking q)).outcome.reply ≡ reply_of (asked q s)) × ((desk_call d m (asking q)).outcome.value ≡ value_of (asked q s))
   pub drawings : (d : List ℕ) (m : ℕ) (s : State) (line : LineNumber) (ula tile dots : List ℕ) → IsDesk d → HasState d m s
       → let r = draw_reply line (length ula) (length tile) (length dots) s in
       ((desk_call d m (drawing line ula tile dots)).outcome.reply ≡ r)

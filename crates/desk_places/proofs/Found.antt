@@ -1,7 +1,7 @@
 -- The exits of the search for a member's seat and of that for a free one, and what a place that is found, or a refusal, tells of the desk.
 use Prim.Native.Nat.{ℕ, ◌≤◌, ◌<◌}
 use mathlib.Core.Path.{◌≡◌, refl, sym, ap, ◌∙◌, subst}
-use mathlib.Core.Bool.{Bool, true, false, cond}
+use mathlib.Core.Bool.{Bool, true, false, cond, not}
 use mathlib.Core.List.{List}
 use native.Mathlib.Omega.{arith}
 use lib.Dec.{ltb}
@@ -10,10 +10,11 @@ use Rattle.lists.proofs.Counts.{count-some}
 use Rattle.lists.proofs.Cond.{if-true, if-false}
 use Rattle.reply.specs.declared.Reply.{Reply}
 use Rattle.reply.specs.declared.Reply.TheVariants.{BadDesk, AlreadyOpen, NotOpen, DeskFull}
-use Rattle.desk_places.specs.declared.places.Place.{Place}
-use Rattle.desk_places.specs.declared.places.Place.TheVariants.{At, Refused}
-use Rattle.desk_seats.specs.Seats.{seats, seat_at, is_held}
-use Rattle.desk_places.specs.Desks.{well_formed, place_of, is_seated, free_of, held_seats, has_room}
+use Rattle.std.specs.Prelude.{Option, Result, Ok, Err, is_some}
+use Rattle.std.specs.Option.{ok_or}
+use Rattle.desk_seats.specs.Seats.{seats, seat_at, is_held, sits}
+use Rattle.desk_places.specs.Desks.{first_below, well_formed, place_of, is_seated, free_of, held_seats, has_room}
+use Rattle.desk_places.proofs.First.{found-some, found_or}
 use Rattle.desk_places.specs.Places.{place_in, free_for, free_in}
 
 -- number m has the seat i of a well-formed desk
@@ -28,36 +29,35 @@ pub data Unplaced (d : List ℕ) (m : ℕ) (r : Reply) : Type 0 where
   not-seated : well_formed d ≡ true → seats ≤ place_of d m → NotOpen ≡ r → Unplaced d m r
 
 module _ (d : List ℕ) (m : ℕ) where
-  pub find_at : (i : ℕ) → well_formed d ≡ true → i ≡ place_of d m → i < seats → At i ≡ place_in d m
-  unfolding place_in
-  find_at i w p l = rw (w, lt-ltb (place_of d m) seats (omega arith)) (ap At p)
+  abbrev of_member : ℕ → Bool
+  of_member i = sits m (seat_at d i)
 
-  pub find_none : (i : ℕ) → well_formed d ≡ true → i ≡ place_of d m → seats ≤ i → Refused NotOpen ≡ place_in d m
-  unfolding place_in
-  find_none i w p l = rw (w, le-ltb (place_of d m) seats (omega arith))
+  pub find-good : (o : Option ℕ) (r : Result ℕ Reply) → well_formed d ≡ true → o ≡ first_below of_member seats → r ≡ ok_or o NotOpen → r ≡ place_in d m
+  unfolding place_in place_of
+  find-good o r w e f = rw (f, e, w) (found_or of_member seats NotOpen)
 
-  pub find-bad : well_formed d ≡ false → Refused BadDesk ≡ place_in d m
+  pub find-bad : well_formed d ≡ false → Err BadDesk ≡ place_in d m
   unfolding place_in
   find-bad w = rw w
 
   -- and back: what each answer of the search tells
-  abbrev Tells : Place → Type 0
-  Tells (At i) = SitsAt d m i
-  Tells (Refused r) = Unplaced d m r
+  abbrev Tells : Result ℕ Reply → Type 0
+  Tells (Ok i) = SitsAt d m i
+  Tells (Err r) = Unplaced d m r
 
   tells : Tells (place_in d m)
   unfolding place_in
   tells = go (well_formed d) refl (is_seated d m) refl
     where
-      go : (a : Bool) → well_formed d ≡ a → (b : Bool) → is_seated d m ≡ b → Tells (cond a (cond b (At (place_of d m)) (Refused NotOpen)) (Refused BadDesk))
+      go : (a : Bool) → well_formed d ≡ a → (b : Bool) → is_seated d m ≡ b → Tells (cond a (cond b (Ok (place_of d m)) (Err NotOpen)) (Err BadDesk))
       go true w true s = record { formed = w; below = ltb-true (place_of d m) seats s; place = refl }
       go true w false s = not-seated w (ltb-false (place_of d m) seats s) refl
       go false w b s = not-formed w refl
 
-  pub at_place : (i : ℕ) (p : Place) → p ≡ place_in d m → p ≡ At i → SitsAt d m i
+  pub at_place : (i : ℕ) (p : Result ℕ Reply) → p ≡ place_in d m → p ≡ Ok i → SitsAt d m i
   at_place i p e q = subst Tells (sym e ∙ q) tells
 
-  pub refused-place : (r : Reply) (p : Place) → p ≡ place_in d m → p ≡ Refused r → Unplaced d m r
+  pub refused-place : (r : Reply) (p : Result ℕ Reply) → p ≡ place_in d m → p ≡ Err r → Unplaced d m r
   refused-place r p e q = subst Tells (sym e ∙ q) tells
 
 -- ---- a free seat for a member that opens
@@ -81,47 +81,44 @@ pub data Unopened (d : List ℕ) (m : ℕ) (r : Reply) : Type 0 where
   full : well_formed d ≡ true → seats ≤ place_of d m → has_room d ≡ false → DeskFull ≡ r → Unopened d m r
 
 module _ (d : List ℕ) (m : ℕ) where
-  pub free-seated : (p : ℕ) → p ≡ place_of d m → p < seats → Refused AlreadyOpen ≡ free_for d m
-  unfolding free_for
-  free-seated p q l = rw (lt-ltb (place_of d m) seats (omega arith))
+  pub free-seated : (o : Option ℕ) (b : Bool) → o ≡ first_below (of_member d m) seats → b ≡ is_some o → b ≡ true → Err AlreadyOpen ≡ free_for d m
+  unfolding free_for place_of
+  free-seated o b e f t = let h : is_seated d m ≡ true = sym (found-some (of_member d m) seats) ∙ sym (f ∙ ap is_some e) ∙ t in rw h
 
-  module _ (p : ℕ) (q : p ≡ place_of d m) (n : seats ≤ p) (i : ℕ) (e : i ≡ free_of d) where
-    pub free-at : i < seats → At i ≡ free_for d m
-    unfolding free_for
-    free-at l =
-        rw (le-ltb (place_of d m) seats (omega arith), room-free d ∙ lt-ltb (free_of d) seats (omega arith)) (ap At e)
+  pub free-found : (o f : Option ℕ) (b : Bool) (r : Result ℕ Reply) → o ≡ first_below (of_member d m) seats → b ≡ is_some o → b ≡ false
+      → f ≡ first_below (λ i. not (is_held (seat_at d i))) seats → r ≡ ok_or f DeskFull → r ≡ free_for d m
+  unfolding free_for place_of free_of
+  free-found o f b r e g t h k =
+      let n : is_seated d m ≡ false = sym (found-some (of_member d m) seats) ∙ sym (g ∙ ap is_some e) ∙ t in
+      rw (n, room-free d, k, h) (found_or (λ i. not (is_held (seat_at d i))) seats DeskFull)
 
-    pub free-full : seats ≤ i → Refused DeskFull ≡ free_for d m
-    unfolding free_for
-    free-full l = rw (le-ltb (place_of d m) seats (omega arith), room-free d ∙ le-ltb (free_of d) seats (omega arith))
-
-  pub open-formed : (r : Place) → well_formed d ≡ true → r ≡ free_for d m → r ≡ free_in d m
+  pub open-formed : (r : Result ℕ Reply) → well_formed d ≡ true → r ≡ free_for d m → r ≡ free_in d m
   unfolding free_in
-  open-formed r w e = e ∙ sym (if-true (well_formed d) (free_for d m) (Refused BadDesk) w)
+  open-formed r w e = e ∙ sym (if-true (well_formed d) (free_for d m) (Err BadDesk) w)
 
-  pub open-bad : well_formed d ≡ false → Refused BadDesk ≡ free_in d m
+  pub open-bad : well_formed d ≡ false → Err BadDesk ≡ free_in d m
   unfolding free_in
-  open-bad w = sym (if-false (well_formed d) (free_for d m) (Refused BadDesk) w)
+  open-bad w = sym (if-false (well_formed d) (free_for d m) (Err BadDesk) w)
 
   -- and back
-  abbrev TellsFree : Place → Type 0
-  TellsFree (At i) = FreeAt d m i
-  TellsFree (Refused r) = Unopened d m r
+  abbrev TellsFree : Result ℕ Reply → Type 0
+  TellsFree (Ok i) = FreeAt d m i
+  TellsFree (Err r) = Unopened d m r
 
   tells-free : TellsFree (free_in d m)
   unfolding free_in free_for
   tells-free = go (well_formed d) refl (is_seated d m) refl (has_room d) refl
     where
       go : (a : Bool) → well_formed d ≡ a → (b : Bool) → is_seated d m ≡ b → (x : Bool) → has_room d ≡ x
-          → TellsFree (cond a (cond b (Refused AlreadyOpen) (cond x (At (free_of d)) (Refused DeskFull))) (Refused BadDesk))
+          → TellsFree (cond a (cond b (Err AlreadyOpen) (cond x (Ok (free_of d)) (Err DeskFull))) (Err BadDesk))
       go true w false s true h =
           record { formed = w; unseated = ltb-false (place_of d m) seats s; below = ltb-true (free_of d) seats (sym (room-free d) ∙ h); place = refl }
       go true w false s false h = full w (ltb-false (place_of d m) seats s) h refl
       go true w true s x h = seated w (ltb-true (place_of d m) seats s) refl
       go false w b s x h = bad-desk w refl
 
-  pub at-free : (i : ℕ) (p : Place) → p ≡ free_in d m → p ≡ At i → FreeAt d m i
+  pub at-free : (i : ℕ) (p : Result ℕ Reply) → p ≡ free_in d m → p ≡ Ok i → FreeAt d m i
   at-free i p e q = subst TellsFree (sym e ∙ q) tells-free
 
-  pub refused-free : (r : Reply) (p : Place) → p ≡ free_in d m → p ≡ Refused r → Unopened d m r
+  pub refused-free : (r : Reply) (p : Result ℕ Reply) → p ≡ free_in d m → p ≡ Err r → Unopened d m r
   refused-free r p e q = subst TellsFree (sym e ∙ q) tells-free

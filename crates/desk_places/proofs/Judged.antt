@@ -10,13 +10,15 @@ use Rattle.lists.specs.Search.{least, some, all}
 use Rattle.lists.proofs.Search.{all-at}
 use Rattle.lists.proofs.Cond.{left-true, right-true}
 use Rattle.desk_seats.specs.Seats.{seats, desk_length, seat_at, is_held, number_of, is_seat, sits}
-use Rattle.desk_places.specs.Desks.{is_again, well_formed}
+use Rattle.std.specs.Prelude.{Option, is_some}
+use Rattle.desk_places.proofs.First.{found-some}
+use Rattle.desk_places.specs.Desks.{first_below, is_again, well_formed}
 
-pub again-is : (d : List ℕ) (i : ℕ) (s : List ℕ) (x : Bool) (n p : ℕ) → s ≡ seat_at d i → x ≡ is_held s → n ≡ number_of s
-    → p ≡ least (λ j. sits n (seat_at d j)) i → (x && ltb p i) ≡ is_again d i
+pub again-is : (d : List ℕ) (i : ℕ) (s : List ℕ) (x y : Bool) (n : ℕ) (o : Option ℕ) → s ≡ seat_at d i → x ≡ is_held s → n ≡ number_of s
+    → o ≡ first_below (λ j. sits n (seat_at d j)) i → y ≡ is_some o → (x && y) ≡ is_again d i
 unfolding is_again
-again-is d i s x n p e f g h =
-    rw (h, g, f) (ap (λ (y : List ℕ). is_held y && some (λ j. sits (number_of y) (seat_at d j)) i) e)
+again-is d i s x y n o e f g h k =
+    rw (k, h, found-some, g, f) (ap (λ (z : List ℕ). is_held z && some (λ j. sits (number_of z) (seat_at d j)) i) e)
 
 pub good-is : (d : List ℕ) (i : ℕ) (s : List ℕ) (x y : Bool) → s ≡ seat_at d i → x ≡ is_seat s → y ≡ is_again d i
     → (x && not y) ≡ (is_seat (seat_at d i) && not (is_again d i))

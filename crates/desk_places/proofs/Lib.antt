@@ -1,3 +1,4 @@
 mod Started
+mod First
 pub mod Judged
 pub mod Found

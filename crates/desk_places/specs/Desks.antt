@@ -1,9 +1,13 @@
 -- Rules 9.3, 9.21, 9.24, 10.14 and 16.2 to 16.5: what makes a desk d well formed, who sits where on it, and a desk that is started.
-use Rattle.std.specs.Prelude.{ℕ, List, Bool, cond, not, ◌&&◌, length, eqb, ltb}
+use Rattle.std.specs.Prelude.{Option, Some, None, ℕ, List, Bool, cond, not, ◌&&◌, length, eqb, ltb}
 use Rattle.lists.specs.Search.{least, some, all, count}
 use Rattle.reply.specs.declared.Reply.{Reply}
 use Rattle.reply.specs.declared.Reply.TheVariants.{Done, BufferLength}
 use Rattle.desk_seats.specs.Seats.{seats, desk_length, zeros, seat_at, is_held, number_of, is_seat, sits}
+
+-- the least i below n that passes p, where one does
+unfoldable pub first_below : (ℕ → Bool) → ℕ → Option ℕ
+first_below p n = cond (some p n) (Some (least p n)) None
 
 -- seat i is held by a number that holds an earlier one
 unfoldable pub is_again : List ℕ → ℕ → Bool

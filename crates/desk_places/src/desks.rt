@@ -13,7 +13,7 @@ fn is_again(desk: &[u8], i: usize) -> bool
     ensures { result ≡ is_again desk.now i }
 {
     let seat = seat_at(desk, i);
-    is_held(seat) & (first_of(desk, number_of(seat), i) < i)
+    is_held(seat) & first_of(desk, number_of(seat), i).is_some()
 }
 
 fn is_good(desk: &[u8], i: usize) -> bool
@@ -32,10 +32,8 @@ pub fn well_formed(desk: &[u8]) -> bool
         return false;
     }
     let mut ok = true;
-    let mut i = 0;
-    while i < SEATS {
+    for i in 0..SEATS {
         ok = is_good(desk, i) & ok;
-        i += 1;
     }
     ok
 }

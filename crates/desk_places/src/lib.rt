@@ -6,4 +6,4 @@ mod places;
 mod search;
 
 pub use desks::start;
-pub use places::{Place, find, find_free};
+pub use places::{find, find_free};

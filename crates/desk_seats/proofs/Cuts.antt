@@ -23,10 +23,6 @@ seat-lent d i =
     let e : i * seat_length + seat_length - i * seat_length ≡ seat_length = omega arith in
     ap (λ (n : ℕ). take n (drop (i * seat_length) d)) e
 
--- the rest of a list as it is lent
-pub rest-lent : (n : ℕ) (s : List ℕ) → take (length s - n) (drop n s) ≡ drop n s
-rest-lent n s = take_all (length s - n) (drop n s) (omega (arith, length-drop n s))
-
 -- the record of a seat, as a part of the seat and of the desk
 pub record-part : (s : List ℕ) → length s ≡ seat_length → take (seat_length - 3) (drop 3 s) ≡ drop 3 s
 record-part s l = take_all (seat_length - 3) (drop 3 s) (omega (arith, length-drop 3 s))

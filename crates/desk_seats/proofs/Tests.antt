@@ -8,7 +8,7 @@ use lib.Dec.{eqb}
 use borrow.Author.Tests.{eqb-true}
 use Rattle.lists.proofs.Cond.{if-true, if-false, left-true, right-true}
 use Rattle.reply.specs.declared.Reply.{Reply}
-use Rattle.reply.specs.Reply.{reply_number, is_done}
+use Rattle.reply.specs.Reply.{is_done}
 use Rattle.record_layout.specs.Record.{read_current}
 use Rattle.desk_seats.specs.Seats.{is_held, number_of, is_free, is_record, is_seat, sits}
 
@@ -25,10 +25,9 @@ unfolding sits
 sits-number m s h = eqb-true (number_of s) m (right-true (is_held s) (eqb (number_of s) m) h)
 
 -- the two exits of a seat's test
-pub seat-held : (s b : List ℕ) (x : Bool) (r : Reply) (n : ℕ) → x ≡ is_held s → x ≡ true → r ≡ (read_current b).reply → b ≡ drop 3 s → n ≡ reply_number r
-    → eqb n 0 ≡ is_seat s
+pub seat-held : (s b : List ℕ) (x y : Bool) (r : Reply) → x ≡ is_held s → x ≡ true → r ≡ (read_current b).reply → b ≡ drop 3 s → y ≡ is_done r → y ≡ is_seat s
 unfolding is_seat is_record
-seat-held s b x r n e t f g h =
+seat-held s b x y r e t f g h =
     rw (h, f, g) (sym (if-true (is_held s) (is_done (read_current (drop 3 s)).reply) (is_free s) (sym e ∙ t)))
 
 pub seat-free : (s : List ℕ) (x y : Bool) → x ≡ is_held s → x ≡ false → y ≡ is_free s → y ≡ is_seat s

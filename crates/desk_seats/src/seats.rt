@@ -2,9 +2,7 @@
 ghost use Rattle.std.specs.Prelude.{◌≡◌, ◌<◌, length};
 ghost use Rattle.desk_seats.specs.Seats.{seats, seat_length, desk_length, seat_at, is_held, number_of, record_of_seat, is_free, is_seat, sits};
 
-use lists::u16_of;
 use record_layout::Version;
-use reply::number;
 
 pub const SEATS: usize = 16;
 
@@ -32,7 +30,7 @@ pub fn number_of(seat: &[u8]) -> u16
     requires { length seat.now ≡ seat_length }
     ensures { result ≡ number_of seat.now }
 {
-    u16_of(seat[1]) * 256 + u16_of(seat[2])
+    u16::from(seat[1]) * 256 + u16::from(seat[2])
 }
 
 pub fn is_held(seat: &[u8]) -> bool
@@ -55,10 +53,8 @@ fn is_free(seat: &[u8]) -> bool
     ensures { result ≡ is_free seat.now }
 {
     let mut ok = true;
-    let mut k = 0;
-    while k < SEAT {
-        ok = (seat[k] == 0) & ok;
-        k += 1;
+    for byte in seat {
+        ok = (*byte == 0) & ok;
     }
     ok
 }
@@ -68,7 +64,7 @@ pub fn is_seat(seat: &[u8]) -> bool
     ensures { result ≡ is_seat seat.now }
 {
     if is_held(seat) {
-        number(record::reply_as(&seat[3..SEAT], Version::Version2)) == 0
+        record::reply_as(&seat[3..SEAT], Version::Version2).is_done()
     } else {
         is_free(seat)
     }

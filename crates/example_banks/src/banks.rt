@@ -78,19 +78,11 @@ fn tile_byte(at: usize) -> u8
 pub fn example_ula() -> [u8; 16384]
     ensures { result ≡ tab ula_byte 16384 }
 {
-    let mut bank = [0u8; 16384];
-    for i in 0..16384 {
-        bank[i] = ula_byte(i);
-    }
-    bank
+    std::array::from_fn(ula_byte)
 }
 
 pub fn example_tiles() -> [u8; 16384]
     ensures { result ≡ tab tile_byte 16384 }
 {
-    let mut bank = [0u8; 16384];
-    for i in 0..16384 {
-        bank[i] = tile_byte(i);
-    }
-    bank
+    std::array::from_fn(tile_byte)
 }

@@ -11,7 +11,7 @@ use state::{Answer, State, lawful};
 pub fn advance(s: State) -> State
     ensures { result ≡ advanced s }
 {
-    let next = std::num::wrapping_add_u8(s.frame, 1);
+    let next = s.frame.wrapping_add(1);
     let mut t = s;
     t.frame = next;
     t

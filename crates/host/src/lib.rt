@@ -1,4 +1,4 @@
-// What the programs share: arguments, whole files by name, the lengths of records, words and numbers on standard output, complaints on standard
+// What the programs share: arguments, whole files by name, the lengths of records, rows of numbers, complaints on standard
 // error, marked buffers.
 #![tactic(auto)]
 

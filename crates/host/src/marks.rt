@@ -8,12 +8,5 @@ pub const MARK: u8 = 85;
 pub fn untouched(bytes: &[u8]) -> bool
     ensures { result ≡ all_marked bytes.now }
 {
-    let mut i = 0;
-    while i < bytes.len() {
-        if bytes[i] != MARK {
-            return false;
-        }
-        i += 1;
-    }
-    true
+    bytes.iter().all(|byte| *byte == MARK)
 }

@@ -44,20 +44,15 @@ or-none a b = go (eqb a 0) (eqb b 0) refl refl
 
 -- one place more
 pub allowed-more : (layer2 sprites : List ℕ) (k excess l s : ℕ) → eqb excess 0 ≡ all (both_allowed layer2 sprites) k
-    → eqb l 0 ≡ layer2_allowed (get_or layer2 k 0) → s ≡ get_or sprites k 0 - 512 → eqb (bit_or (bit_or excess l) s) 0 ≡ all (both_allowed layer2 sprites) (k + 1)
+    → eqb l 0 ≡ layer2_allowed (get_or layer2 k 0) → s ≡ get_or sprites k 0 - 512 → eqb (bit_or excess (bit_or l s)) 0 ≡ all (both_allowed layer2 sprites) (k + 1)
 unfolding all
 allowed-more layer2 sprites k excess l s e el es =
     simp unary_clauses
-    (or-none (bit_or excess l) s ∙ ap₂ ◌&&◌ (or-none excess l ∙ ap₂ ◌&&◌ e el) (sprite-excess (get_or sprites k 0) s es)
-    ∙ turned (all (both_allowed layer2 sprites) k) (layer2_allowed (get_or layer2 k 0)) (sprite_allowed (get_or sprites k 0)))
+    (or-none excess (bit_or l s) ∙ ap₂ ◌&&◌ e (or-none l s ∙ ap₂ ◌&&◌ el (sprite-excess (get_or sprites k 0) s es))
+    ∙ turned (all (both_allowed layer2 sprites) k) (both_allowed layer2 sprites k))
   where
-    turned : (x y z : Bool) → ((x && y) && z) ≡ cond (y && z) x false
-    turned true true z = go z
-      where
-        go : (z : Bool) → z ≡ cond z true false
-        go true = refl
-        go false = refl
-    turned true false z = refl
-    turned false true true = refl
-    turned false true false = refl
-    turned false false z = refl
+    turned : (x y : Bool) → (x && y) ≡ cond y x false
+    turned true true = refl
+    turned true false = refl
+    turned false true = refl
+    turned false false = refl

@@ -13,8 +13,8 @@ fn lay_level(level: u8, fallback: u16, upper: &[u16], lower: &[u16], row: &mut [
     requires { LaidBounds fallback upper.now lower.now row.old }
     ensures { row.new ≡ tab (λ k. level_over level fallback (get_or upper.now k 0) (get_or lower.now k 0) (get_or row.old k 0)) 640 }
 {
-    for k in 0..640 {
-        row[k] = level_over(level, fallback, upper[k], lower[k], row[k]);
+    for (k, dot) in row.iter_mut().enumerate() {
+        *dot = level_over(level, fallback, upper[k], lower[k], *dot);
     }
 }
 

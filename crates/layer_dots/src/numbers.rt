@@ -44,14 +44,15 @@ fn layer2_excess(n: u16) -> u16
     above_512(toggle(above_512(n)))
 }
 
-// Every number is looked at, and what is too much is gathered without a test, so that the loop can be vectorised.
+// Every number is looked at, and what is too much is gathered without a test, so that the loop can be vectorised. By
+// places, since it reads two lines: pairs of both would be no plainer.
 fn all_allowed(layer2: &[u16], sprites: &[u16]) -> bool
     requires { (length layer2.now ≡ 640) × (length sprites.now ≡ 640) }
     ensures { result ≡ all (both_allowed layer2.now sprites.now) 640 }
 {
     let mut excess = 0u16;
     for k in 0..640 {
-        excess = excess | layer2_excess(layer2[k]) | above_512(sprites[k]);
+        excess |= layer2_excess(layer2[k]) | above_512(sprites[k]);
     }
     excess == 0
 }

@@ -11,7 +11,7 @@ ghost use Rattle.layers.specs.Layers.{layered_line, early_pieces, layers_reply};
 
 use layer_dots::{layers_reply, lent_reply};
 use line_replies::{lengths_reply, line_reply, state_reply};
-use reply::{Reply, first_of, number};
+use reply::{Reply, first_of};
 use state::{State, lawful_reply};
 use surface::LineNumber;
 
@@ -49,7 +49,7 @@ fn judge(
 {
     let lawful = lawful_reply(s);
     let early = early_reply(line, ula, tile, out, layer2.len(), sprites.len(), lawful);
-    if number(early) == 0 {
+    if early.is_done() {
         first_of(
             state_reply(s.ula, s.tiles, s.palette, s.ports),
             layers_reply(s.ula, layer2, sprites),
@@ -91,7 +91,7 @@ pub fn draw_layers(
         × (out.new ≡ drawn_if result (layered_line s ula.now tile.now layer2.now sprites.now line) out.old) }
 {
     let r = judge(line, ula.len(), tile.len(), out.len(), s, layer2, sprites);
-    if number(r) == 0 {
+    if r.is_done() {
         draw_line(s, line, ula, tile, layer2, sprites, out);
     }
     r

@@ -4,6 +4,7 @@ use mathlib.Core.Path.{◌≡◌, sym, ap, ◌∙◌}
 use mathlib.Core.List.{List}
 use mathlib.Core.Bool.{true, false}
 use lib.ListN.{length}
+use Rattle.std.specs.Prelude.{Err}
 use Rattle.lists.proofs.Cond.{if-true, if-false}
 use Rattle.reply.specs.Reply.{is_done}
 use Rattle.reply.proofs.Done.{is-done}
@@ -11,13 +12,17 @@ use Rattle.state.specs.declared.State.{State}
 use Rattle.state.specs.declared.Answer.{Answer}
 use Rattle.state.specs.Answer.{refused}
 use Rattle.state.specs.Lawful.{lawful_state}
-use Rattle.register_answers.specs.declared.Reading.{Reading}
-use Rattle.register_answers.specs.Answers.{unread}
+use Rattle.register_answers.specs.Answers.{Reading}
+use Rattle.register_answers.proofs.Told.{Told, told-after}
+use Rattle.register_laws.proofs.Claims.{register-told, port-told}
 use Rattle.record_layout.specs.declared.RecordRead.{RecordRead}
 use Rattle.record_layout.specs.Version.{current}
 use Rattle.record_layout.specs.Record.{accepted, record_length, record_of, read_record, read_current}
 use Rattle.record_layout.proofs.Stages.{accepts, done-accepted}
 use Rattle.record_layout.proofs.RoundTrip.{long, state-lawful}
+use Rattle.lent.specs.declared.queries.Query.{Query}
+use Rattle.lent.specs.declared.queries.Query.TheVariants as query
+use Rattle.lent.specs.Calls.{asked}
 use Rattle.lent.specs.Lent.{lent_answer, lent_after, lent_reading}
 
 -- the lent record after an answer that is done, and after a refusal
@@ -66,9 +71,18 @@ module _ (b : List ℕ) (read : RecordRead) (h : read ≡ read_record b) where
   unfolding lent_reading
   told call a d q = q ∙ ap (λ (x : RecordRead). call x.state) h ∙ sym (if-true _ _ _ (sym same-done ∙ d))
 
-  pub untold : (call : State → Reading) → is_done read.reply ≡ false → unread read.reply ≡ lent_reading call b
+  pub untold : (call : State → Reading) → is_done read.reply ≡ false → Err read.reply ≡ lent_reading call b
   unfolding lent_reading
-  untold call d = ap (λ (x : RecordRead). unread x.reply) h ∙ sym (if-false _ _ _ (sym same-done ∙ d))
+  untold call d = ap (λ (x : RecordRead). Err x.reply) h ∙ sym (if-false _ _ _ (sym same-done ∙ d))
+
+-- what a question answers is told by its reply and its value
+asked-told : (q : Query) (s : State) → Told (asked q s)
+asked-told (query.Register n) s = register-told s n
+asked-told (query.Port n) s = port-told s n
+
+pub lent-told : (q : Query) (b : List ℕ) → Told (lent_reading (asked q) b)
+unfolding lent_reading
+lent-told q b = let r = read_record b in told-after r.reply (asked q r.state) (asked-told q r.state)
 
 -- the two results of a change whose answer is a
 pub changed-by : (call : State → Answer) (b : List ℕ) (a : Answer) (after : List ℕ) → a ≡ lent_answer call b → after ≡ lent_after b a

@@ -8,7 +8,7 @@ ghost use Rattle.lent.specs.Calls.{changed};
 
 use record_layout::Version;
 use register_answers::accept;
-use reply::{Reply, number};
+use reply::Reply;
 use state::{Answer, State};
 
 // What can be done to a state: the next frame, a write of a register (number, value), a write of a port.
@@ -36,11 +36,9 @@ fn store(a: Answer, bytes: &mut [u8])
     requires { length bytes.old ≡ record_length current }
     ensures { bytes.new ≡ lent_after bytes.old a }
 {
-    let r = a.reply;
-    let n = number(r);
-    if n == 0 {
-        let s = a.state;
-        record_parts::put_record(s, bytes);
+    let reply = a.reply;
+    if reply.is_done() {
+        record_parts::put_record(a.state, bytes);
     }
 }
 
@@ -51,12 +49,10 @@ pub fn change_record(bytes: &mut [u8], c: Change) -> Reply
 {
     let read = record::read_current(bytes);
     let r = read.reply;
-    if number(r) == 0 {
-        let s = read.state;
-        let a = apply(s, c);
-        let q = a.reply;
+    if r.is_done() {
+        let a = apply(read.state, c);
         store(a, bytes);
-        q
+        a.reply
     } else {
         r
     }

@@ -3,8 +3,7 @@ ghost use Rattle.std.specs.Prelude.{◌≡◌};
 ghost use Rattle.lent.specs.Lent.{lent_reading};
 ghost use Rattle.lent.specs.Calls.{asked};
 
-use register_answers::Reading;
-use reply::number;
+use reply::Reply;
 use state::State;
 
 // What can be asked of a state: a register or a port, by number.
@@ -14,7 +13,7 @@ pub enum Query {
     Port(u16),
 }
 
-fn ask(s: State, q: Query) -> Reading
+fn ask(s: State, q: Query) -> Result<u8, Reply>
     ensures { result ≡ asked q s }
 {
     match q {
@@ -23,16 +22,16 @@ fn ask(s: State, q: Query) -> Reading
     }
 }
 
-// What the state in the record reads as, or the reply that refuses the record or the read, and 0.
-pub fn query_record(bytes: &[u8], q: Query) -> Reading
+// What the state in the record reads as, or the reply that refuses the record or the read.
+pub fn query_record(bytes: &[u8], q: Query) -> Result<u8, Reply>
     ensures { result ≡ lent_reading (asked q) bytes.now }
 {
     let read = record::read_record(bytes);
     let r = read.reply;
-    if number(r) == 0 {
+    if r.is_done() {
         let s = read.state;
         ask(s, q)
     } else {
-        Reading { reply: r, value: 0 }
+        Err(r)
     }
 }

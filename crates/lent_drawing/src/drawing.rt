@@ -13,7 +13,7 @@ ghost use Rattle.lent_drawing.specs.Drawn.{lent_draw_reply, lent_drawn};
 ghost use Rattle.lent_drawing.specs.Bounds.{RecordBounds, tiles_laid};
 
 use record_layout::Version;
-use reply::{Reply, first_of, number};
+use reply::{Reply, first_of};
 use surface::LineNumber;
 
 // The ULA's dots of a line, and what the types of the bytes read give, which `composed_record` hands on.
@@ -99,7 +99,7 @@ fn draw_judged(
         × (dots.new ≡ drawn_if result (drawn_line (state_as v bytes.now) ula.now tile.now line) dots.old) }
 {
     let r = state_judged(bytes, v);
-    if number(r) == 0 {
+    if r.is_done() {
         draw_line(bytes, v, ula, tile, line, dots);
     }
     r
@@ -127,7 +127,7 @@ pub fn draw_record(
     let v = record_places::version_of(bytes.len());
     let stored = record::reply_as(bytes, v);
     let early = early_reply(line, ula.len(), tile.len(), dots.len(), stored);
-    if number(early) == 0 {
+    if early.is_done() {
         draw_judged(bytes, v, ula, tile, line, dots)
     } else {
         early

@@ -5,9 +5,10 @@ use mathlib.Core.Path.{◌≡◌, refl, sym, ap, ◌∙◌}
 use mathlib.Core.List.{List}
 use mathlib.Core.Bool.{Bool, true, false, cond}
 use lib.ListN.{length}
+use Rattle.std.specs.Prelude.{Ok, Err}
 use Rattle.lists.proofs.Cond.{if-true, either}
 use Rattle.reply.specs.declared.Reply.{Reply}
-use Rattle.reply.specs.declared.Reply.TheVariants.{Done, WrongVersion}
+use Rattle.reply.specs.declared.Reply.TheVariants.{Done, NotLawful, WrongVersion}
 use Rattle.reply.specs.Reply.{is_done}
 use Rattle.reply.proofs.Done.{is-done}
 use Rattle.reply.proofs.NotFour.{NotFour, done-not-four}
@@ -19,8 +20,8 @@ use Rattle.state.specs.Reset.{reset_state}
 use Rattle.state.specs.Lawful.{lawful_state}
 use Rattle.state.specs.Typed.{Typed}
 use Rattle.frame.proofs.Claims.{frame_lawful, frame-done}
-use Rattle.register_answers.specs.declared.Reading.{Reading}
-use Rattle.register_answers.specs.Answers.{unread}
+use Rattle.register_answers.specs.Answers.{Reading}
+use Rattle.reply.specs.Answered.{reply_of}
 use Rattle.register_laws.specs.Claims.{LawfulStays}
 use Rattle.register_laws.proofs.Claims.{lawful_stays, never_four}
 use Rattle.record_layout.specs.declared.RecordRead.{RecordRead}
@@ -87,15 +88,19 @@ change-not-four NextFrame s h = rw (frame-done s h) done-not-four
 change-not-four (Register n v) s h = never_four.registers s n v h
 change-not-four (Port n v) s h = never_four.ports s n v h
 
-query-not-four : (q : Query) (s : State) → lawful_state s ≡ true → NotFour (asked q s).reply
-query-not-four (query.Register n) s h = never_four.register-reads s n h
-query-not-four (query.Port n) s h = never_four.port-reads s n h
+reading-not-four : (a : Reading) → (a ≡ Err NotLawful → ⊥) → NotFour (reply_of a)
+reading-not-four (Ok v) h = done-not-four
+reading-not-four (Err r) h = λ e. h (ap Err e)
+
+query-not-four : (q : Query) (s : State) → lawful_state s ≡ true → NotFour (reply_of (asked q s))
+query-not-four (query.Register n) s h = reading-not-four (asked (query.Register n) s) (never_four.register-reads s n h)
+query-not-four (query.Port n) s h = reading-not-four (asked (query.Port n) s) (never_four.port-reads s n h)
 
 pub never_not_lawful : NeverNotLawful
 unfolding lent_answer lent_reading lent_draw_reply read_record
 never_not_lawful = record {
   changes = λ b c. asking (λ (a : Answer). a.reply) current b (changed c (read_current b).state) (unchanged b) (change-not-four c (read_current b).state) refl;
-  queries = λ b q. asking (λ (a : Reading). a.reply) (version_of (length b)) b (asked q (read_record b).state) (unread (read_record b).reply) (query-not-four q (read_record b).state) refl;
+  queries = λ b q e. asking reply_of (version_of (length b)) b (asked q (read_record b).state) (Err (read_record b).reply) (query-not-four q (read_record b).state) refl (ap reply_of e);
   drawings =
       λ b line ula tile dots.
       let s = (read_record b).state in

@@ -1,5 +1,5 @@
 -- Rule 7.10, and what else no single call on a lent record states.
-use Rattle.std.specs.Prelude.{ℕ, ◌≡◌, List}
+use Rattle.std.specs.Prelude.{ℕ, ◌≡◌, List, Err}
 use Rattle.reply.specs.declared.Reply.TheVariants.{Done, NotLawful, WrongVersion}
 use Rattle.lists.specs.Bytes.{Bytes}
 use Rattle.surface.specs.declared.lines.LineNumber.{LineNumber}
@@ -22,7 +22,7 @@ ChangeReadsBack =
 -- 4 never comes from a lent record, whatever is asked of it
 pub record NeverNotLawful : Type 0 where
   pub changes : (b : List ℕ) (c : Change) → (lent_answer (changed c) b).reply ≡ NotLawful → ⊥
-  pub queries : (b : List ℕ) (q : Query) → (lent_reading (asked q) b).reply ≡ NotLawful → ⊥
+  pub queries : (b : List ℕ) (q : Query) → lent_reading (asked q) b ≡ Err NotLawful → ⊥
   pub drawings : (b : List ℕ) (line : LineNumber) (ula tile dots : ℕ) → lent_draw_reply line ula tile dots b ≡ NotLawful → ⊥
 
 -- an old record: every change refuses it with 17 and leaves it; every question is answered on the state in it as if it were moved up

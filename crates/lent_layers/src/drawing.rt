@@ -15,7 +15,7 @@ use layer_dots::layers_reply;
 use layers::early_reply;
 use lent_drawing::{composed_record, state_judged};
 use record_layout::Version;
-use reply::{Reply, first_of, number};
+use reply::{Reply, first_of};
 use surface::LineNumber;
 
 // The line, where nothing refuses it.
@@ -64,7 +64,7 @@ fn draw_judged(
         × (dots.new ≡ drawn_if result (layered_line (state_as v bytes.now) ula.now tile.now layer2.now sprites.now line) dots.old) }
 {
     let r = late_reply(bytes, v, layer2, sprites);
-    if number(r) == 0 {
+    if r.is_done() {
         draw_line(bytes, v, ula, tile, layer2, sprites, line, dots);
     }
     r
@@ -94,7 +94,7 @@ pub fn draw_layers_record(
         sprites.len(),
         stored,
     );
-    if number(early) == 0 {
+    if early.is_done() {
         draw_judged(bytes, v, ula, tile, layer2, sprites, line, dots)
     } else {
         early

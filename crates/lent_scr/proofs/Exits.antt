@@ -1,4 +1,4 @@
--- The exits of the calls on a lent record: `read` is what reading the record answered, r the reply and n its number.
+-- The exits of the calls on a lent record: `read` is what reading the record answered, r the reply and n whether it is done.
 use Prim.Native.Nat.{ℕ, ◌-◌, ◌≤◌}
 use mathlib.Core.Path.{◌≡◌, refl, sym, ap, ◌∙◌}
 use mathlib.Core.List.{List}
@@ -7,7 +7,7 @@ use native.Mathlib.Omega.{arith}
 use lib.ListN.{length}
 use Rattle.lists.proofs.Cond.{if-true, if-false}
 use Rattle.reply.specs.declared.Reply.{Reply}
-use Rattle.reply.specs.Reply.{reply_number, is_done}
+use Rattle.reply.specs.Reply.{is_done}
 use Rattle.state.specs.declared.State.{State}
 use Rattle.record_layout.specs.declared.RecordRead.{RecordRead}
 use Rattle.record_layout.specs.Version.{current}
@@ -28,30 +28,30 @@ use Rattle.scr.proofs.Read as read-laws
 use Rattle.lent_scr.specs.declared.reading.ScreenRead.{ScreenRead}
 use Rattle.lent_scr.specs.Screens.{lent_read_reply, screen_read, record_after, lent_write_reply}
 
-module _ (b bank file : List ℕ) (read : RecordRead) (found : Shape) (r : Reply) (n : ℕ) (eb : read ≡ read_current b) (ef : found ≡ shape_of file)
-    (er : r ≡ read_judged read.reply (length bank) found.mode) (en : n ≡ reply_number r) where
+module _ (b bank file : List ℕ) (read : RecordRead) (found : Shape) (r : Reply) (n : Bool) (eb : read ≡ read_current b) (ef : found ≡ shape_of file)
+    (er : r ≡ read_judged read.reply (length bank) found.mode) (en : n ≡ is_done r) where
   judged : r ≡ read_judged (read_current b).reply (length bank) found.mode
   judged = er ∙ ap (λ (a : RecordRead). read_judged a.reply (length bank) found.mode) eb
 
   told : r ≡ lent_read_reply b bank file
   told = read-laws.told (read_current b).reply bank file found r n ef judged en
 
-  pub accepted : n ≡ 0 → Readable (read_current b).reply (length bank) found.mode
+  pub accepted : n ≡ true → Readable (read_current b).reply (length bank) found.mode
   accepted z = read-laws.accepted (read_current b).reply bank file found r n ef judged en z
 
-  pub record-long : n ≡ 0 → length b ≡ record_length current
+  pub record-long : n ≡ true → length b ≡ record_length current
   record-long z = long current b (done-accepted current b (accepted z).sound)
 
   answered : (k : ℕ) → k ≡ (screen_read (lent_read_reply b bank file) file).colours
       → ◌≡◌ {A = ScreenRead} (record { reply = r; colours = k }) (screen_read (lent_read_reply b bank file) file)
   answered k e = rw (told, e)
 
-  place-told : n ≡ 0 → (k : ℕ) → k ≡ cond found.colours (length file - colours_size found.colours) 0 → k ≡ (screen_read (lent_read_reply b bank file) file).colours
+  place-told : n ≡ true → (k : ℕ) → k ≡ cond found.colours (length file - colours_size found.colours) 0 → k ≡ (screen_read (lent_read_reply b bank file) file).colours
   place-told z k e =
       e ∙ ap (λ (x : Shape). cond x.colours (length file - colours_size x.colours) 0) ef
       ∙ ap (λ (d : Bool). cond (d && (shape_of file).colours) (colours_at file) 0) (sym (read-laws.told-done (read_current b).reply bank file found r n ef judged en z))
 
-  pub screen-stored : n ≡ 0 → (k : ℕ) (x y : List ℕ) → k ≡ cond found.colours (length file - colours_size found.colours) 0 → x ≡ record_of (state_read read.state file)
+  pub screen-stored : n ≡ true → (k : ℕ) (x y : List ℕ) → k ≡ cond found.colours (length file - colours_size found.colours) 0 → x ≡ record_of (state_read read.state file)
       → y ≡ filled (form_of found.mode).parts bank file
       → (◌≡◌ {A = ScreenRead} (record { reply = r; colours = k }) (screen_read (lent_read_reply b bank file) file))
       × (x ≡ record_after (lent_read_reply b bank file) b file) × (y ≡ bank_after (lent_read_reply b bank file) bank file)
@@ -63,7 +63,7 @@ module _ (b bank file : List ℕ) (read : RecordRead) (found : Shape) (r : Reply
     read-laws.bank-read (read_current b).reply bank file found r n ef judged en z y g,
   )
 
-  pub unread : (n ≡ 0 → ⊥) → (◌≡◌ {A = ScreenRead} (record { reply = r; colours = 0 }) (screen_read (lent_read_reply b bank file) file))
+  pub unread : n ≡ false → (◌≡◌ {A = ScreenRead} (record { reply = r; colours = 0 }) (screen_read (lent_read_reply b bank file) file))
       × (b ≡ record_after (lent_read_reply b bank file) b file) × (bank ≡ bank_after (lent_read_reply b bank file) bank file)
   unfolding lent_after
   unread z =

@@ -8,7 +8,7 @@ ghost use Rattle.scr.specs.Reads.{state_read, bank_after};
 ghost use Rattle.lent_scr.specs.Screens.{lent_read_reply, screen_read, record_after};
 
 use record_parts::put_record;
-use reply::{Reply, number};
+use reply::Reply;
 use scr::state_read;
 use scr_forms::{Shape, colours_size, shape_of};
 use scr_parts::fill;
@@ -54,7 +54,7 @@ pub fn read_scr_record(bytes: &mut [u8], bank: &mut [u8], file: &[u8]) -> Screen
     let read = record::read_current(bytes);
     let stored = read.reply;
     let r = read_reply(stored, bank.len(), mode);
-    if number(r) == 0 {
+    if r.is_done() {
         let s = read.state;
         store_screen(bytes, bank, s, found, file);
         let colours = place(found.colours, file.len());

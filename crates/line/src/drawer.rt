@@ -28,7 +28,7 @@ pub fn draw(line: LineNumber, ula: &[u8], tile: &[u8], s: State, out: &mut [u16]
         (drawn_line s ula.now tile.now line) out.old) }
 {
     let r = draw_reply(line, ula.len(), tile.len(), out.len(), s);
-    if reply::number(r) == 0 {
+    if r.is_done() {
         draw_line(s, line, ula, tile, out);
     }
     r

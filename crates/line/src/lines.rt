@@ -47,7 +47,8 @@ pub fn composed_shown(
 }
 
 // A state's four palettes are lent by one call and chosen here: two of them held apart would be lent at two lifetimes, which no proof
-// covers. Asks for what `composed_shown` asks.
+// covers. Not one `Palettes`, since a state lends its own four and would copy 2 KB at each line (docs/DECISIONS.md, "Writes go over parts").
+// Asks for what `composed_shown` asks.
 pub fn composed_chosen<'a>(
     v: Shown,
     ulafirst: &'a [u16; 256],

@@ -38,8 +38,10 @@ pub fn composed_dot(stencil: bool, u: u16, v: u16) -> u16
     let tile_first = surface::top_dot(t, u);
     if stencil {
         both
+    } else if v / 1024 == 1 {
+        ula_first
     } else {
-        if v / 1024 == 1 { ula_first } else { tile_first }
+        tile_first
     }
 }
 
@@ -48,8 +50,8 @@ fn cover_line(fallback: u16, out: &mut [u16])
     requires { length out.old ≡ 640 }
     ensures { out.new ≡ finished fallback out.old }
 {
-    for k in 0..640 {
-        out[k] = surface::top_dot(out[k], fallback);
+    for dot in out.iter_mut() {
+        *dot = surface::top_dot(*dot, fallback);
     }
 }
 
@@ -58,11 +60,7 @@ fn is_opaque(out: &[u16]) -> bool
     requires { length out.now ≡ 640 }
     ensures { result ≡ opaque out.now }
 {
-    let mut ok = true;
-    for k in 0..640 {
-        ok = (out[k] != 512) & ok;
-    }
-    ok
+    out.iter().fold(true, |ok, &dot| (dot != 512) & ok)
 }
 
 // The fallback colour where a composed line is transparent. Most lines have no such dot, and to look costs less than to write them all.

@@ -6,10 +6,10 @@ use mathlib.Core.Bool.{true, false, cond, ◌&&◌}
 use lib.Dec.{eqb}
 use borrow.Author.Tests.{eqb-true}
 use Rattle.lists.proofs.Cond.{if-true, if-false, left-true, right-true}
-use Rattle.reply.specs.Reply.{is_done, reply_number}
+use Rattle.reply.specs.Reply.{is_done}
 use Rattle.reply.specs.declared.Reply.{Reply}
 use Rattle.reply.specs.declared.Reply.TheVariants.{Done, NoLine, BankLength, BufferLength, NotLawful}
-use Rattle.reply.proofs.Done.{number-done, test-met}
+use Rattle.reply.proofs.Done.{is-done, test-met}
 use Rattle.reply.proofs.Order.{all_done}
 use Rattle.state.specs.Lawful.{lawful_state, lawful_reply}
 use Rattle.state.specs.declared.State.{State}
@@ -37,10 +37,10 @@ pub record Judged (l : LineNumber) (u t o : ℕ) (s : State) : Type 0 where
   pub out : o ≡ 640
   pub lawful : lawful_state s ≡ true
 
-pub judged : (line : LineNumber) (ula tile out : ℕ) (s : State) (r : Reply) → r ≡ draw_reply line ula tile out s → reply_number r ≡ 0 → Judged line ula tile out s
+pub judged : (line : LineNumber) (ula tile out : ℕ) (s : State) (r : Reply) → r ≡ draw_reply line ula tile out s → is_done r ≡ true → Judged line ula tile out s
 unfolding draw_reply
 judged line ula tile out s r e n =
-    let h = all_done (line_reply line ∷ lengths_reply ula tile out ∷ lawful_reply s ∷ state_reply s.ula s.tiles s.palette s.ports ∷ []) (sym e ∙ number-done r n) in
+    let h = all_done (line_reply line ∷ lengths_reply ula tile out ∷ lawful_reply s ∷ state_reply s.ula s.tiles s.palette s.ports ∷ []) (sym e ∙ is-done r n) in
     let m = lengths-met ula tile out h.1.0 in
     record {
       line = line-met line h.0;

@@ -47,7 +47,7 @@ fn next_with_plus(p: Palette, ports: Ports) -> bool
 fn no_mode(u: Ula, ports: Ports) -> bool
     ensures { result ≡ no_mode u ports }
 {
-    let missing = ula_mode::is_missing(ula_mode::mode_of(u, ports));
+    let missing = ula_mode::mode_of(u, ports).is_missing();
     state_bits::ula_on(u) & missing
 }
 

@@ -18,17 +18,11 @@ fn add(s: Pair, x: u32) -> Pair
     Pair { a, b }
 }
 
-fn u32_of(x: u16) -> u32
-    ensures { (result ≡ x) × (result < 65536) }
-{
-    x as u32
-}
-
 fn add_dot(s: Pair, dot: u16) -> Pair
     requires { Small s }
     ensures { (result ≡ dot_added s dot) × (Small result) }
 {
-    let d = u32_of(dot);
+    let d = u32::from(dot);
     add(add(s, d / 256), d % 256)
 }
 
@@ -37,8 +31,8 @@ pub fn line_sum(dots: &[u16]) -> u32
     ensures { result ≡ line_sum dots.now }
 {
     let mut s = Pair { a: 1, b: 0 };
-    for i in 0..dots.len() {
-        s = add_dot(s, dots[i]);
+    for dot in dots {
+        s = add_dot(s, *dot);
     }
     s.b * 65536 + s.a
 }

@@ -2,29 +2,21 @@
 use crate::adler::line_sum;
 use host::files::bytes_of;
 use host::records::RECORD_FILE;
-use host::report;
 use state::State;
 use std::io;
 use std::rt::Files;
 use surface::LineNumber;
 
-// A line's sum, or its reply where it is refused.
-fn print_line(rt: &impl Print, y: usize, ula: &[u8], tile: &[u8], s: State) -> io::Result<()> {
-    let mut dots = [0u16; 640];
-    let r = line::draw(LineNumber(y), ula, tile, s, &mut dots);
-    let n = reply::number(r);
-    if n == 0 {
-        report::hex(rt, line_sum(&dots) as u64, 8)?;
-        report::word(rt, b"\n")
-    } else {
-        report::row(rt, b"refused", n as u64)
-    }
-}
-
-// A line for each line of the picture.
+// A line for each line of the picture: its sum, or its reply where it is refused.
 pub fn print_lines(rt: &impl Print, ula: &[u8], tile: &[u8], s: State) -> io::Result<()> {
     for y in 0..256 {
-        print_line(rt, y, ula, tile, s)?;
+        let mut dots = [0u16; 640];
+        let r = line::draw(LineNumber(y), ula, tile, s, &mut dots);
+        if r.is_done() {
+            println!(rt; "{:08x}", line_sum(&dots))?;
+        } else {
+            println!(rt; "refused {}", u8::from(r))?;
+        }
     }
     Ok(())
 }
@@ -32,22 +24,21 @@ pub fn print_lines(rt: &impl Print, ula: &[u8], tile: &[u8], s: State) -> io::Re
 fn print_case(rt: &impl Print, record: &[u8], ula: &[u8], tile: &[u8]) -> io::Result<()> {
     let read = record::read_record(record);
     let r = read.reply;
-    let n = reply::number(r);
-    if n == 0 {
-        let s = read.state;
-        print_lines(rt, ula, tile, s)
+    if r.is_done() {
+        print_lines(rt, ula, tile, read.state)
     } else {
-        report::row(rt, b"record refused", n as u64)
+        println!(rt; "record refused {}", u8::from(r))
     }
 }
 
+// A path need not be text.
 fn print_names(rt: &impl Print, record: &[u8], ula: &[u8], tile: &[u8]) -> io::Result<()> {
-    report::word(rt, record)?;
-    report::word(rt, b" ")?;
-    report::word(rt, ula)?;
-    report::word(rt, b" ")?;
-    report::word(rt, tile)?;
-    report::word(rt, b"\n")
+    rt.write_all(record)?;
+    print!(rt; " ")?;
+    rt.write_all(ula)?;
+    print!(rt; " ")?;
+    rt.write_all(tile)?;
+    println!(rt; "")
 }
 
 // The case that a record, a ULA bank and a tile bank make; each buffer is a byte longer than its file must be, and a file that is missing

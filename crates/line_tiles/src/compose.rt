@@ -12,20 +12,16 @@ fn single_dots(row: &[u16], skew: usize, dots: &mut [u16])
     requires { (length row.now ≡ 648) × (skew < 8) × (length dots.old ≡ 640) }
     ensures { dots.new ≡ tab (λ (k : ℕ). get_or row.now (skew + k) 0) 640 }
 {
-    for k in 0..640 {
-        let at = skew + k;
-        dots[k] = row[at];
-    }
+    dots.copy_from_slice(&row[skew..skew + 640]);
 }
 
-// In 40 columns a shade is two dots.
+// In 40 columns a shade is two dots. By places and not by `chunks_exact_mut`: tried, and the proof did not close, since of what is
+// written to a lent chunk only the length is known.
 fn double_dots(row: &[u16], skew: usize, dots: &mut [u16])
     requires { (length row.now ≡ 648) × (skew < 8) × (length dots.old ≡ 640) }
     ensures { dots.new ≡ tab (λ (k : ℕ). get_or row.now (skew + k / 2) 0) 640 }
 {
-    for x in 0..320 {
-        let at = skew + x;
-        let v = row[at];
+    for (x, &v) in row[skew..skew + 320].iter().enumerate() {
         dots[x * 2] = v;
         dots[x * 2 + 1] = v;
     }
@@ -48,8 +44,8 @@ fn compose_dots(stencil: bool, dots: &[u16], out: &mut [u16])
     requires { (length dots.now ≡ 640) × (length out.old ≡ 640) }
     ensures { out.new ≡ tab (λ (k : ℕ). shade_over stencil (get_or out.old k 0) (get_or dots.now k 0)) 640 }
 {
-    for k in 0..640 {
-        out[k] = composed_dot(stencil, out[k], dots[k]);
+    for (k, dot) in out.iter_mut().enumerate() {
+        *dot = composed_dot(stencil, *dot, dots[k]);
     }
 }
 

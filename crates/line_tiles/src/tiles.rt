@@ -21,8 +21,8 @@ fn shade_palette(pal: &[u16; 256], transparent: u8, out: &mut [u16])
     requires { length out.old ≡ 256 }
     ensures { out.new ≡ shades_of pal.now transparent }
 {
-    for i in 0..256 {
-        out[i] = unless_transparent(transparent, i as u8, pal[i]);
+    for (i, shade) in out.iter_mut().enumerate() {
+        *shade = unless_transparent(transparent, i as u8, pal[i]);
     }
 }
 
@@ -47,10 +47,8 @@ fn layered(
         let mut row = [0u16; 648];
         tilemap::tile_row(t, &shades, bank, line, &mut row);
         compose_row(stencil, &row, t.columns80, t.x % 8, w.left, w.right, out);
-    } else {
-        if stencil {
-            surface_rows::paint(512, out);
-        }
+    } else if stencil {
+        surface_rows::paint(512, out);
     }
 }
 

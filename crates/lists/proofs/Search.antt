@@ -95,6 +95,16 @@ unfolding all
 all_of p zero h = refl
 all_of p (suc n) h = rw (h n (le_refl (suc n))) (all_of p n (λ i l. h i (omega (arith, l))))
 
+-- an answer that is yes where each one below n passes, and only there
+pub all-decided : (p : ℕ → Bool) (n : ℕ) (b : Bool) → (b ≡ true → (i : ℕ) → i < n → p i ≡ true)
+    → (((i : ℕ) → i < n → p i ≡ true) → b ≡ true) → b ≡ all p n
+all-decided p n true f g = sym (all_of p n (f refl))
+all-decided p n false f g = go (all p n) refl
+  where
+    go : (b : Bool) → all p n ≡ b → false ≡ b
+    go true e = g (all-at p n e)
+    go false e = refl
+
 pub all-not : (p : ℕ → Bool) (n i : ℕ) → i < n → p i ≡ false → all p n ≡ false
 all-not p n i l h = go (all p n) refl
   where

@@ -102,8 +102,12 @@ tab-patch f g h a n b p q r =
     let d : drop (a + n) (tab f (a + n + b)) ≡ tab (λ (k : ℕ). h (a + n + k)) b = drop-tab f (a + n) b ∙ tab-ext _ _ b r in
     rw (t, m, drop-drop n a (tab f (a + n + b)), d, tab-join h (a + n) b, tab-join h a n, append_assoc)
 
--- n times 0
+-- n times the same value
+module _ (v : ℕ) where
+  pub tab-constant : (n : ℕ) → tab (λ (k : ℕ). v) n ≡ replicate n v
+  unfolding tab
+  tab-constant zero = refl
+  tab-constant (suc n) = rw (tab-constant n) (replicate-append-replicate {A = ℕ} n 1 v ∙ ap (λ (k : ℕ). replicate k v) (add-one n))
+
 pub tab-zeros : (n : ℕ) → tab (λ (k : ℕ). 0) n ≡ replicate n 0
-unfolding tab
-tab-zeros zero = refl
-tab-zeros (suc n) = rw (tab-zeros n) (replicate-append-replicate {A = ℕ} n 1 0 ∙ ap (λ (k : ℕ). replicate k 0) (add-one n))
+tab-zeros n = tab-constant 0 n

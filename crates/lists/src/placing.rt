@@ -8,18 +8,12 @@ pub fn put(target: &mut [u8], at: usize, src: &[u8])
     requires { at + length src.now ≤ length target.old }
     ensures { target.new ≡ placed target.old at src.now }
 {
-    let mut i = 0;
-    while i < src.len() {
-        target[at + i] = src[i];
-        i += 1;
-    }
+    target[at..at + src.len()].copy_from_slice(src);
 }
 
 // Makes every byte 0.
 pub fn zero(out: &mut [u8])
     ensures { out.new ≡ tab (λ (i : ℕ). 0) (length out.old) }
 {
-    for i in 0..out.len() {
-        out[i] = 0;
-    }
+    out.fill(0);
 }

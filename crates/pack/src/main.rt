@@ -2,7 +2,6 @@
 #![tactic(auto)]
 
 use host::files::fill;
-use host::report;
 use std::io;
 
 // All of standard input is the picture: one byte more than a picture has is enough to see that there are too many.
@@ -11,12 +10,8 @@ fn main(rt: HostRuntime) -> io::Result<()> {
     let n = fill(&mut rt.stdin(), &mut picture)?;
     let mut map = [0u8; 2560];
     let mut definitions = [0u8; 8192];
-    let r = packer::pack(&picture[..n], 256, 0, &mut map, &mut definitions);
-    let answer = r.reply;
-    let refused = reply::number(answer);
-    if refused == 0 {
-        report::row(&rt, b"tiles", r.count as u64)
-    } else {
-        report::row(&rt, b"refused", refused as u64)
+    match packer::pack(&picture[..n], 256, 0, &mut map, &mut definitions) {
+        Ok(tiles) => println!(rt; "tiles {tiles}"),
+        Err(reply) => println!(rt; "refused {}", u8::from(reply)),
     }
 }

@@ -15,9 +15,9 @@ use Rattle.tilemap_turns.specs.Turns.{column_of, row_of}
 use Rattle.pack_classes.specs.Picture.{cell_pixels}
 use Rattle.pack_classes.specs.Turned.{turned_into, turn_for, can_make}
 use Rattle.pack_classes.proofs.Cells.{Shows, turned-of}
-use Rattle.pack_search.specs.declared.search.Match.{Match}
 use Rattle.pack_rule.specs.Greedy.{first_maker, def_cells, tile_of, source_of, cell_turn, map_byte}
-use Rattle.pack_search.specs.Bounds.{Listed, Slotted, Found}
+use Rattle.pack_search.specs.declared.search.Table.{Table}
+use Rattle.pack_search.specs.Bounds.{Kept}
 use Rattle.pack_entries.specs.Bounds.{Progress}
 use Rattle.pack_search.proofs.Listing.{pair-more}
 
@@ -49,35 +49,36 @@ entry_more f map c a b fits h ha hb i l =
     (eq-or-lt_of_le k'))
     (eq-or-lt_of_le w)
 
-module _ (pic : List ℕ) (offset : ℕ) (cells : List ℕ) (pixels transposes : List (List ℕ)) (marks slots map : List ℕ) (n c : ℕ) (cell : List ℕ) (p : Match)
-    (g : Progress pic offset cells pixels transposes marks slots map n c) (ec : cell ≡ cell_pixels pic c) (here : Found pixels cell n p) where
-  source_is : (k : ℕ) → k < n → get_or pixels k [] ≡ cell_pixels pic (get_or (def_cells pic c) k 0)
+module _ (pic : List ℕ) (offset : ℕ) (cells : List ℕ) (t : Table) (map : List ℕ) (c : ℕ) (cell : List ℕ) (tile : ℕ) (g : Progress pic offset cells t map c)
+    (ec : cell ≡ cell_pixels pic c)
+    (here : tile ≡ least (λ k. can_make (get_or t.pixels k []) cell) t.count) where
+  source_is : (k : ℕ) → k < t.count → get_or t.pixels k [] ≡ cell_pixels pic (get_or (def_cells pic c) k 0)
   source_is k l = g.taken k l ∙ ap (cell_pixels pic) (g.packed.same k l)
 
-  tile-is : p.tile ≡ tile_of pic c
+  tile-is : tile ≡ tile_of pic c
   unfolding tile_of first_maker
   tile-is =
-      here.tile-is
-      ∙ least-same (λ k. can_make (get_or pixels k []) cell) (λ k. can_make (cell_pixels pic (get_or (def_cells pic c) k 0)) (cell_pixels pic c)) n
+      here
+      ∙ least-same (λ k. can_make (get_or t.pixels k []) cell) (λ k. can_make (cell_pixels pic (get_or (def_cells pic c) k 0)) (cell_pixels pic c)) t.count
       (λ k l. ap₂ can_make (source_is k l) ec)
       ∙ ap (least (λ k. can_make (cell_pixels pic (get_or (def_cells pic c) k 0)) (cell_pixels pic c))) g.packed.count
 
-  turn-old : p.tile < n → p.turn ≡ cell_turn pic c
+  turn-old : (turn : ℕ) → turn ≡ turn_for (get_or t.pixels tile []) cell → tile < t.count → turn ≡ cell_turn pic c
   unfolding cell_turn source_of
-  turn-old l =
-      let t : tile_of pic c < length (def_cells pic c) = omega (arith, l, tile-is, g.packed.count) in
-      here.turn_is l
+  turn-old turn et l =
+      let w : tile_of pic c < length (def_cells pic c) = omega (arith, l, tile-is, g.packed.count) in
+      et
       ∙ ap₂ turn_for
-      (source_is p.tile l ∙ ap₂ (λ (ds : List ℕ) (k : ℕ). cell_pixels pic (get_or ds k 0)) (sym (defs-old pic c t)) tile-is) ec
+      (source_is tile l ∙ ap₂ (λ (ds : List ℕ) (k : ℕ). cell_pixels pic (get_or ds k 0)) (sym (defs-old pic c w)) tile-is) ec
 
-  turn-new : n ≤ p.tile → 0 ≡ cell_turn pic c
+  turn-new : t.count ≡ tile → 0 ≡ cell_turn pic c
   unfolding cell_turn source_of turn_for Shows column_of row_of
   turn-new l =
-      let t : length (def_cells pic c) ≤ tile_of pic c = omega (arith, l, tile-is, g.packed.count) in
-      let e : tile_of pic c ≡ length (def_cells pic c) = omega (arith, t, tile-is, g.packed.count, here.tile-small) in
+      let w : length (def_cells pic c) ≤ tile_of pic c = omega (arith, l, tile-is, g.packed.count) in
+      let e : tile_of pic c ≡ length (def_cells pic c) = omega (arith, l, tile-is, g.packed.count) in
       least-here (turned_into (cell_pixels pic c) (cell_pixels pic c)) 8 0 (omega arith) (λ i k. absurd (not-suc-le-zero k)) (turned-of pic c c 0 (λ x y h k. refl))
       ∙ ap (λ (d : ℕ). turn_for (cell_pixels pic d) (cell_pixels pic c))
-      (sym (ap₂ (λ (ds : List ℕ) (k : ℕ). get_or ds k 0) (defs-new pic c t) e ∙ get_or-append_seam (def_cells pic c) c [] 0))
+      (sym (ap₂ (λ (ds : List ℕ) (k : ℕ). get_or ds k 0) (defs-new pic c w) e ∙ get_or-append_seam (def_cells pic c) c [] 0))
 
   entry-tile : map_byte pic offset (c * 2) ≡ tile_of pic c
   unfolding map_byte
@@ -88,95 +89,88 @@ module _ (pic : List ℕ) (offset : ℕ) (cells : List ℕ) (pixels transposes :
   entry-turn = let e : (c * 2 + 1) % 2 ≡ 1 = omega arith in let h : (c * 2 + 1) / 2 ≡ c = omega arith in rw (e, h) refl
 
   -- with an old definition
-  pub step-old : (map' : List ℕ) → map' ≡ set (set map (c * 2) p.tile) (c * 2 + 1) (offset * 16 + p.turn * 2) → c < 1280 → p.tile < n
-      → Progress pic offset cells pixels transposes marks slots map' n (suc c)
-  step-old map' em lc l =
-      let t : tile_of pic c < length (def_cells pic c) = omega (arith, l, tile-is, g.packed.count) in
+  pub step-old : (turn : ℕ) → turn ≡ turn_for (get_or t.pixels tile []) cell → (map' : List ℕ)
+      → map' ≡ set (set map (c * 2) tile) (c * 2 + 1) (offset * 16 + turn * 2) → c < 1280 → tile < t.count
+      → Progress pic offset cells t map' (suc c)
+  step-old turn et map' em lc l =
+      let w : tile_of pic c < length (def_cells pic c) = omega (arith, l, tile-is, g.packed.count) in
       let q = g.packed in
       record {
         packed = record {
           cells-length = q.cells-length;
           map-length = rw em (simp length-set q.map-length);
           some_left = q.some_left;
-          count = q.count ∙ ap length (sym (defs-old pic c t));
-          same = λ k h. q.same k h ∙ ap (λ (ds : List ℕ). get_or ds k 0) (sym (defs-old pic c t));
+          count = q.count ∙ ap length (sym (defs-old pic c w));
+          same = λ k h. q.same k h ∙ ap (λ (ds : List ℕ). get_or ds k 0) (sym (defs-old pic c w));
           mapped =
               rw em
-              (entry_more (map_byte pic offset) map c p.tile (offset * 16 + p.turn * 2) (omega (arith, q.map-length, lc)) q.mapped
-              (tile-is ∙ sym entry-tile) (ap (λ (v : ℕ). offset * 16 + v * 2) (turn-old l) ∙ sym entry-turn));
+              (entry_more (map_byte pic offset) map c tile (offset * 16 + turn * 2) (omega (arith, q.map-length, lc)) q.mapped
+              (tile-is ∙ sym entry-tile) (ap (λ (v : ℕ). offset * 16 + v * 2) (turn-old turn et l) ∙ sym entry-turn));
         };
-        listed = g.listed;
-        slotted = g.slotted;
+        kept = g.kept;
         taken = g.taken;
       }
 
   -- with a new one
-  pub step-new : (pixels' transposes' : List (List ℕ)) (marks' slots' map' : List ℕ) → pixels' ≡ set pixels n cell → Listed pixels' transposes' marks' (n + 1)
-      → Slotted pixels' slots' (n + 1) → map' ≡ set (set map (c * 2) n) (c * 2 + 1) (offset * 16 + 0 * 2) → c < 1280 → n ≤ p.tile → n < 256
-      → Progress pic offset (set cells n c) pixels' transposes' marks' slots' map' (suc n) (suc c)
-  step-new pixels' transposes' marks' slots' map' ep listed' slotted' em lc l f =
-      let t : length (def_cells pic c) ≤ tile_of pic c = omega (arith, l, tile-is, g.packed.count) in
-      let e = defs-new pic c t in
+  step-counted : (t' : Table) (map' : List ℕ) → t'.pixels ≡ set t.pixels t.count cell → t'.count ≡ t.count + 1 → Kept t'
+      → map' ≡ set (set map (c * 2) t.count) (c * 2 + 1) (offset * 16 + 0 * 2) → c < 1280 → t.count ≡ tile → t.count < 256
+      → Progress pic offset (set cells t.count c) t' map' (suc c)
+  step-counted t' map' ep en kept' em lc l f =
+      let w : length (def_cells pic c) ≤ tile_of pic c = omega (arith, l, tile-is, g.packed.count) in
+      let e = defs-new pic c w in
       let q = g.packed in
+      let m : t'.count ≡ suc t.count = en ∙ add-one t.count in
       record {
         packed = record {
           cells-length = simp length-set q.cells-length;
           map-length = rw em (simp length-set q.map-length);
-          some_left = omega (arith, f);
-          count = omega (arith, q.count, ap length e, length-append (def_cells pic c) (c ∷ []));
+          some_left = omega (arith, f, m);
+          count = omega (arith, m, q.count, ap length e, length-append (def_cells pic c) (c ∷ []));
           same =
-              below (λ k. get_or (set cells n c) k 0 ≡ get_or (def_cells pic (suc c)) k 0) n
+              rw m
+              (below (λ k. get_or (set cells t.count c) k 0 ≡ get_or (def_cells pic (suc c)) k 0) t.count
               (λ k h.
-              get_or-set_other cells n k c 0 (omega (arith, h)) ∙ q.same k h
+              get_or-set_other cells t.count k c 0 (omega (arith, h)) ∙ q.same k h
               ∙ sym (ap (λ (ds : List ℕ). get_or ds k 0) e ∙ get_or-append (def_cells pic c) (c ∷ []) 0 k (omega (arith, h, q.count))))
-              (get_or-set_same cells n c 0 (omega (arith, f, q.cells-length))
-              ∙ sym (ap₂ (λ (ds : List ℕ) (k : ℕ). get_or ds k 0) e q.count ∙ get_or-append_seam (def_cells pic c) c [] 0));
+              (get_or-set_same cells t.count c 0 (omega (arith, f, q.cells-length))
+              ∙ sym (ap₂ (λ (ds : List ℕ) (k : ℕ). get_or ds k 0) e q.count ∙ get_or-append_seam (def_cells pic c) c [] 0)));
           mapped =
               rw em
-              (entry_more (map_byte pic offset) map c n (offset * 16 + 0 * 2) (omega (arith, q.map-length, lc)) q.mapped
-              (omega (arith, l, here.tile-small, tile-is, entry-tile)) (omega (arith, turn-new l, entry-turn)));
+              (entry_more (map_byte pic offset) map c t.count (offset * 16 + 0 * 2) (omega (arith, q.map-length, lc)) q.mapped
+              (omega (arith, l, tile-is, entry-tile)) (omega (arith, turn-new l, entry-turn)));
         };
-        listed = rw (add-one n) at listed';
-        slotted = rw (add-one n) at slotted';
+        kept = kept';
         taken =
-            rw ep
-            (pair-more (cell_pixels pic) cells pixels n c 0 cell [] (omega (arith, f, q.cells-length)) (omega (arith, f, g.listed.pixels-length)) ec
+            rw (m, ep)
+            (pair-more (cell_pixels pic) cells t.pixels t.count c 0 cell [] (omega (arith, f, q.cells-length)) (omega (arith, f, g.kept.listed.pixels-length)) ec
             g.taken);
       }
 
+  pub step-new : (n : ℕ) → n ≡ t.count → (t' : Table) (map' : List ℕ) → t'.pixels ≡ set t.pixels t.count cell → t'.count ≡ t.count + 1 → Kept t'
+      → map' ≡ set (set map (c * 2) n) (c * 2 + 1) (offset * 16 + 0 * 2) → c < 1280 → t.count ≡ tile → t.count < 256
+      → Progress pic offset (set cells n c) t' map' (suc c)
+  step-new n h t' map' ep en kept' em lc l f = rw h (step-counted t' map' ep en kept' (rw h at em) lc l f)
+
   -- past the number allowed
-  pub step-too-many : n ≤ p.tile → n < length (def_cells pic (suc c))
+  pub step-too-many : t.count ≡ tile → t.count < length (def_cells pic (suc c))
   step-too-many l =
-      let t : length (def_cells pic c) ≤ tile_of pic c = omega (arith, l, tile-is, g.packed.count) in
-      omega (arith, g.packed.count, ap length (defs-new pic c t), length-append (def_cells pic c) (c ∷ []))
+      let w : length (def_cells pic c) ≤ tile_of pic c = omega (arith, l, tile-is, g.packed.count) in
+      omega (arith, g.packed.count, ap length (defs-new pic c w), length-append (def_cells pic c) (c ∷ []))
 
 -- before the first cell
-pub start : (pic : List ℕ) (offset : ℕ) (cells : List ℕ) (pixels transposes : List (List ℕ)) (marks slots map : List ℕ)
-    → length cells ≡ 256 → length pixels ≡ 256 → length transposes ≡ 256 → length marks ≡ 256 → length slots ≡ 8192 → length map ≡ 2560
-    → Progress pic offset cells pixels transposes marks slots map 0 0
+pub start : (pic : List ℕ) (offset : ℕ) (cells : List ℕ) (t : Table) (map : List ℕ) → t.count ≡ 0 → Kept t → length cells ≡ 256 → length map ≡ 2560
+    → Progress pic offset cells t map 0
 unfolding def_cells
-start pic offset cells pixels transposes marks slots map lc lp lf lm ls l =
+start pic offset cells t map e kept lc l =
     record {
       packed = record {
         cells-length = lc;
         map-length = l;
-        some_left = omega arith;
-        count = refl;
-        same = λ k h. absurd (not-suc-le-zero h);
+        some_left = omega (arith, e);
+        count = e;
+        same = λ k h. absurd (omega (arith, h, e));
         mapped = λ i h. absurd (omega (arith, h));
       };
-      listed = record {
-        pixels-length = lp;
-        transposes-length = lf;
-        marks-length = lm;
-        some_left = omega arith;
-        transpose-is = λ k h. absurd (not-suc-le-zero h);
-        mark-is = λ k h. absurd (not-suc-le-zero h);
-      };
-      slotted = record {
-        slots_length = ls;
-        used = λ k h. absurd (not-suc-le-zero h);
-        apart = λ j k g h. absurd (not-suc-le-zero h);
-      };
-      taken = λ k h. absurd (not-suc-le-zero h);
+      kept = kept;
+      taken = λ k h. absurd (omega (arith, h, e));
     }

@@ -1,8 +1,9 @@
 -- What the steps of a packing keep; no part of what a packing is.
-use Rattle.std.specs.Prelude.{◌≡◌, List, [], ℕ, ◌*◌, ◌≤◌, ◌<◌, length, get_or}
+use Rattle.std.specs.Prelude.{◌≡◌, List, [], ℕ, ◌*◌, ◌≤◌, ◌<◌, length, get_or, Option, MatchOption}
 use Rattle.pack_classes.specs.Picture.{cell_pixels}
 use Rattle.pack_rule.specs.Greedy.{def_cells, map_byte}
-use Rattle.pack_search.specs.Bounds.{Listed, Slotted}
+use Rattle.pack_search.specs.declared.search.Table.{Table}
+use Rattle.pack_search.specs.Bounds.{Kept}
 
 -- the packing of the cells below c: n definitions, from these cells, and the map's bytes so far
 pub record PackedSoFar (pic : List ℕ) (offset : ℕ) (cells map : List ℕ) (n c : ℕ) : Type 0 where
@@ -14,13 +15,11 @@ pub record PackedSoFar (pic : List ℕ) (offset : ℕ) (cells map : List ℕ) (n
   pub mapped : (i : ℕ) → i < c * 2 → get_or map i 0 ≡ map_byte pic offset i
 
 -- the same, with those cells listed
-pub record Progress (pic : List ℕ) (offset : ℕ) (cells : List ℕ) (pixels transposes : List (List ℕ)) (marks slots map : List ℕ) (n c : ℕ) : Type 0 where
-  pub packed : PackedSoFar pic offset cells map n c
-  pub listed : Listed pixels transposes marks n
-  pub slotted : Slotted pixels slots n
-  pub taken : (k : ℕ) → k < n → get_or pixels k [] ≡ cell_pixels pic (get_or cells k 0)
+pub record Progress (pic : List ℕ) (offset : ℕ) (cells : List ℕ) (t : Table) (map : List ℕ) (c : ℕ) : Type 0 where
+  pub packed : PackedSoFar pic offset cells map t.count c
+  pub kept : Kept t
+  pub taken : (k : ℕ) → k < t.count → get_or t.pixels k [] ≡ cell_pixels pic (get_or cells k 0)
 
--- r definitions of at most allowed, and then P; or more than allowed, as the cells below c need
-pub record Stepped (P : Type 0) (pic : List ℕ) (allowed r c : ℕ) : Type 0 where
-  pub going : r ≤ allowed → P
-  pub too_many : allowed < r → allowed < length (def_cells pic c)
+-- so many definitions, at most allowed, and P of their number; or the cells below c need more than allowed
+abbrev pub Stepped : (ℕ → Type 0) → List ℕ → ℕ → ℕ → Option ℕ → Type 0
+Stepped P pic allowed c r = MatchOption r (allowed < length (def_cells pic c)) (λ n. (n ≤ allowed) × P n)

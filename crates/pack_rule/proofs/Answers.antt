@@ -16,10 +16,11 @@ use Rattle.reply.specs.declared.Reply.{Reply}
 use Rattle.reply.specs.declared.Reply.TheVariants.{Done, BufferLength, TooManyTiles, PackingBounds}
 use Rattle.reply.specs.Reply.{is_done, reply_number}
 use Rattle.pack_classes.specs.Turned.{classes}
-use Rattle.pack_rule.specs.declared.Packing.{Packing}
+use Rattle.std.specs.Prelude.{Result, Ok, Err}
 use Rattle.pack_rule.specs.Sheet.{Draws}
 use Rattle.pack_rule.specs.Greedy.{tile_count, packed_map, packed_defs}
 use Rattle.pack_rule.specs.Answer.{judged, answered, pack_answer, NoneDraws, Fewest, Demanded}
+use Rattle.reply.specs.Answered.{reply_of, value_of}
 use Rattle.pack_rule.specs.Packs.{Packs}
 use Rattle.pack_rule.proofs.Banked.{setting}
 use Rattle.pack_rule.proofs.Lower.{direct, lower}
@@ -69,19 +70,19 @@ module _ (pic map defs allowed offset : ℕ) where
 
 module _ (pic : List ℕ) (allowed offset map defs : ℕ) where
   pub answer-early : (r : Reply) → r ≡ judged (length pic) map defs allowed offset → (reply_number r ≡ 0 → ⊥)
-      → record { reply = r; count = 0 } ≡ pack_answer pic allowed offset map defs
+      → Err r ≡ pack_answer pic allowed offset map defs
   unfolding pack_answer
-  answer-early r e n = rw (← e) (sym (if-false (is_done r) (answered (tile_count pic) allowed) (record { reply = r; count = 0 }) (ne_eqb _ _ n)))
+  answer-early r e n = rw (← e) (sym (if-false (is_done r) (answered (tile_count pic) allowed) (Err r) (ne_eqb _ _ n)))
 
   pub answer-judged : reply_number (judged (length pic) map defs allowed offset) ≡ 0 → answered (tile_count pic) allowed ≡ pack_answer pic allowed offset map defs
   unfolding pack_answer
   answer-judged z = sym (if-true _ _ _ (eq-eqb _ _ z))
 
-pub answered-done : (n allowed : ℕ) → n ≤ allowed → answered n allowed ≡ record { reply = Done; count = n }
+pub answered-done : (n allowed : ℕ) → n ≤ allowed → answered n allowed ≡ Ok n
 unfolding answered
 answered-done n allowed l = if-true _ _ _ (le-leb n allowed l)
 
-pub answered-many : (n allowed : ℕ) → allowed < n → answered n allowed ≡ record { reply = TooManyTiles; count = 0 }
+pub answered-many : (n allowed : ℕ) → allowed < n → answered n allowed ≡ Err TooManyTiles
 unfolding answered
 answered-many n allowed l = if-false _ _ _ (lt-leb n allowed l)
 
@@ -104,12 +105,12 @@ drawn-by pic offset n map defs f =
     }
 
 module _ (pic : List ℕ) (allowed offset map defs : ℕ) where
-  pub count_small : (pack_answer pic allowed offset map defs).count ≤ allowed
+  pub count_small : value_of (pack_answer pic allowed offset map defs) ≤ allowed
   unfolding pack_answer answered
   count_small = go (is_done (judged (length pic) map defs allowed offset)) (leb (tile_count pic) allowed) refl
     where
       go : (b d : Bool) → leb (tile_count pic) allowed ≡ d
-          → (cond {A = Packing} b (cond d (record { reply = Done; count = tile_count pic }) (record { reply = TooManyTiles; count = 0 })) (record { reply = judged (length pic) map defs allowed offset; count = 0 })).count ≤ allowed
+          → value_of (cond {A = Result ℕ Reply} b (cond d (Ok (tile_count pic)) (Err TooManyTiles)) (Err (judged (length pic) map defs allowed offset))) ≤ allowed
       go true true e = leb-true (tile_count pic) allowed e
       go true false e = zero-le
       go false d e = zero-le
@@ -121,7 +122,7 @@ module _ (pic : List ℕ) (allowed offset map defs : ℕ) where
     where
       go : (b : Bool) → is_done (judged (length pic) map defs allowed offset) ≡ b → (d : Bool) → leb (tile_count pic) allowed ≡ d
           → Demanded pic allowed offset (packed_map pic offset) (packed_defs pic)
-          (cond b (cond d (record { reply = Done; count = tile_count pic }) (record { reply = TooManyTiles; count = 0 })) (record { reply = judged (length pic) map defs allowed offset; count = 0 }))
+          (cond b (cond d (Ok (tile_count pic)) (Err TooManyTiles)) (Err (judged (length pic) map defs allowed offset)))
       go false e d f =
           record {
             accepted = λ z. absurd (not-both (ap is_done z) e);
@@ -142,33 +143,33 @@ module _ (pic : List ℕ) (allowed offset map defs : ℕ) where
 
   -- an answer that is not refused early is one of two
   pub decided : Good (length pic) map defs allowed offset
-      → ((pack_answer pic allowed offset map defs).reply ≡ Done) ⊎ ((pack_answer pic allowed offset map defs).reply ≡ TooManyTiles)
+      → (reply_of (pack_answer pic allowed offset map defs) ≡ Done) ⊎ (reply_of (pack_answer pic allowed offset map defs) ≡ TooManyTiles)
   decided g = go (leb (tile_count pic) allowed) refl
     where
       judge : answered (tile_count pic) allowed ≡ pack_answer pic allowed offset map defs
       judge = answer-judged pic allowed offset map defs (ap reply_number (good-done (length pic) map defs allowed offset g))
 
       go : (b : Bool) → leb (tile_count pic) allowed ≡ b
-          → ((pack_answer pic allowed offset map defs).reply ≡ Done) ⊎ ((pack_answer pic allowed offset map defs).reply ≡ TooManyTiles)
-      go true e = inl (ap (λ (a : Packing). a.reply) (sym judge ∙ answered-done (tile_count pic) allowed (leb-true _ _ e)))
-      go false e = inr (ap (λ (a : Packing). a.reply) (sym judge ∙ answered-many (tile_count pic) allowed (leb-false _ _ e)))
+          → (reply_of (pack_answer pic allowed offset map defs) ≡ Done) ⊎ (reply_of (pack_answer pic allowed offset map defs) ≡ TooManyTiles)
+      go true e = inl (ap reply_of (sym judge ∙ answered-done (tile_count pic) allowed (leb-true _ _ e)))
+      go false e = inr (ap reply_of (sym judge ∙ answered-many (tile_count pic) allowed (leb-false _ _ e)))
 
 -- what is answered and left goes with the definitions: all that a packing promises
-pub packs : (pic : List ℕ) (allowed offset : ℕ) (map defs map' defs' : List ℕ) (a : Packing) → Bytes pic
-    → a ≡ pack_answer pic allowed offset (length map) (length defs) → map' ≡ cond (is_done a.reply) (packed_map pic offset) map
-    → defs' ≡ cond (is_done a.reply) (packed_defs pic) defs → Packs pic allowed offset map defs map' defs' a
+pub packs : (pic : List ℕ) (allowed offset : ℕ) (map defs map' defs' : List ℕ) (a : Result ℕ Reply) → Bytes pic
+    → a ≡ pack_answer pic allowed offset (length map) (length defs) → map' ≡ cond (is_done (reply_of a)) (packed_map pic offset) map
+    → defs' ≡ cond (is_done (reply_of a)) (packed_defs pic) defs → Packs pic allowed offset map defs map' defs' a
 packs pic allowed offset map defs map' defs' a bytes e em ed =
     let d = demanded pic allowed offset (length map) (length defs) bytes in
-    let r = ap (λ (p : Packing). p.reply) e in
+    let r = ap reply_of e in
     record {
       answer-is = e;
       map_is = em;
       defs-is = ed;
       demand = record {
         accepted = λ z.
-            let m : map' ≡ packed_map pic offset = em ∙ if-true (is_done a.reply) (packed_map pic offset) map (ap is_done z) in
-            let n : defs' ≡ packed_defs pic = ed ∙ if-true (is_done a.reply) (packed_defs pic) defs (ap is_done z) in
-            let k : a.count ≡ (pack_answer pic allowed offset (length map) (length defs)).count = ap (λ (p : Packing). p.count) e in
+            let m : map' ≡ packed_map pic offset = em ∙ if-true (is_done (reply_of a)) (packed_map pic offset) map (ap is_done z) in
+            let n : defs' ≡ packed_defs pic = ed ∙ if-true (is_done (reply_of a)) (packed_defs pic) defs (ap is_done z) in
+            let k : value_of a ≡ value_of (pack_answer pic allowed offset (length map) (length defs)) = ap value_of e in
             rw (m, n, k) (d.accepted (sym r ∙ z));
         refused = λ z. d.refused (sym r ∙ z);
       };

@@ -9,15 +9,16 @@ use Rattle.pack_classes.specs.Picture.{cell_pixel}
 use Rattle.pack_rule.specs.Sheet.{high_byte, named, sheet_setup, SetIn, sheet_index}
 use Rattle.pack_rule.specs.Greedy.{def_cells, tile_count, cell_turn, packed_map, packed_defs}
 use Rattle.pack_rule.specs.Answer.{pack_answer, NoneDraws, Setting, Fewest}
+use Rattle.reply.specs.Answered.{reply_of, value_of}
 
 -- for a picture, a number allowed and an offset in order, the packing is accepted and draws with the fewest, or it is refused 11 and
 -- none that names at most the number allowed draws
 abbrev pub FewestOrNone : Type 0
 FewestOrNone =
     (pic : List ℕ) (allowed offset : ℕ) → length pic ≡ 40960 → Bytes pic → allowed ≤ 256 → offset ≤ 15
-    → (((pack_answer pic allowed offset 2560 8192).reply ≡ Done)
-    × Fewest pic offset (pack_answer pic allowed offset 2560 8192).count (packed_map pic offset) (packed_defs pic))
-    ⊎ (((pack_answer pic allowed offset 2560 8192).reply ≡ TooManyTiles) × NoneDraws pic allowed offset)
+    → ((reply_of (pack_answer pic allowed offset 2560 8192) ≡ Done)
+    × Fewest pic offset (value_of (pack_answer pic allowed offset 2560 8192)) (packed_map pic offset) (packed_defs pic))
+    ⊎ ((reply_of (pack_answer pic allowed offset 2560 8192) ≡ TooManyTiles) × NoneDraws pic allowed offset)
 
 -- there is a setting for every map and definitions
 abbrev pub SettingExists : Type 0

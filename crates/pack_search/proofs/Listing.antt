@@ -18,7 +18,7 @@ use Rattle.pack_turns.specs.Rows.{transpose_of}
 use Rattle.pack_classes.proofs.Cells.{can-both}
 use Rattle.pack_classes.proofs.Kept.{mark_made}
 use Rattle.pack_search.specs.declared.search.Match.{Match}
-use Rattle.pack_search.specs.Bounds.{Listed, Slotted, SlotTurn, Found}
+use Rattle.pack_search.specs.Bounds.{Listed, Slotted, Makes}
 
 -- an element stored in each of two lists, of which the second is f of the first
 pub pair-more : {A B : Type 0} (f : A → B) (xs : List A) (ys : List B) (n : ℕ) (x d : A) (y e : B) → n < length xs → n < length ys
@@ -50,19 +50,6 @@ still-used slots s v i h l u = go (eqb i s) refl
     go : (b : Bool) → eqb i s ≡ b → 0 < get_or (set slots s v) i 0
     go true e = rw (eqb-true i s e, get_or-set_same slots s v 0 h) l
     go false e = rw (get_or-set_other slots s i v 0 (eqb-false i s e)) u
-
--- no listed cell can be turned into a cell of this mark
-pub found_none : (pixels : List (List ℕ)) (cell : List ℕ) (n : ℕ) (p : Match) {m : ℕ} → (p.tile ≡ n) × (p.turn ≡ 0) × (p.mark ≡ m)
-    → n ≡ least (λ k. can_make (get_or pixels k []) cell) n → m ≡ mark_of cell → Found pixels cell n p
-found_none pixels cell n p e none em =
-    record {
-      tile-is = e.0 ∙ none;
-      turn_is = λ l. absurd (omega (arith, l, e.0));
-      turn-none = λ l. e.1;
-      mark-is = e.2 ∙ em;
-      tile-small = omega (arith, e.0);
-      turn_small = omega (arith, e.1);
-    }
 
 -- what a slot holds of the one before it is of no account
 pub slotted-older : (pixels : List (List ℕ)) (slots : List ℕ) (n h o : ℕ) → Slotted pixels slots n → Slotted pixels (set slots (h + 4096) o) n
@@ -112,17 +99,8 @@ module _ (pixels : List (List ℕ)) (slots : List ℕ) (n : ℕ) (cell : List �
       go j h false f = refl
 
   -- and where a slot holds it, it is what is found
-  pub found-by : (slot turn : ℕ) (p : Match) → SlotTurn pixels cell n slot turn → turn < 8 → p.tile ≡ slot - 1 → p.turn ≡ turn → p.mark ≡ mark_of cell
-      → Found pixels cell n p
+  pub found-by : (p : Match) → Makes pixels cell n p → (p.tile ≡ least (λ k. can_make (get_or pixels k []) cell) n) × Makes pixels cell n p
   unfolding can_make turn_for
-  found-by slot turn p m l et eu em =
-      let at = m.listed l in
-      let e : turn_for (get_or pixels (slot - 1) []) cell < 8 = rw (m.turn_is l) at l in
-      record {
-        tile-is = et ∙ made_by (slot - 1) (omega (arith, at.0, at.1)) (lt-ltb _ 8 e);
-        turn_is = λ h. eu ∙ m.turn_is l ∙ ap (λ (k : ℕ). turn_for (get_or pixels k []) cell) (sym et);
-        turn-none = λ h. absurd (omega (arith, h, et, at.0, at.1));
-        mark-is = em;
-        tile-small = omega (arith, et, at.1);
-        turn_small = omega (arith, eu, l);
-      }
+  found-by p m =
+      let e : turn_for (get_or pixels p.tile []) cell < 8 = rw m.turn_is at m.turn_small in
+      (made_by p.tile m.listed (lt-ltb _ 8 e), m)

@@ -4,4 +4,4 @@
 
 mod search;
 
-pub use search::{Match, list_cell, locate};
+pub use search::{Match, Table};

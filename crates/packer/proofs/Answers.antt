@@ -1,55 +1,57 @@
--- What a packing writes and answers at each of its ends goes with the definitions: refused early, or written and answered.
+-- A packing that the packer answers at each of its ends goes with the definitions: refused early, or written and answered.
 use mathlib.Core.Path.{◌≡◌, refl, sym, ap, ◌∙◌}
 use mathlib.Core.List.{List}
-use mathlib.Core.Bool.{Bool, true, false, cond}
-use Prim.Native.Nat.{ℕ, ◌≤◌, ◌<◌}
-use lib.Dec.{leb}
+use Prim.Native.Nat.{ℕ}
 use lib.ListN.{length}
-use borrow.Author.Tests.{ne_eqb, leb-true, leb-false}
-use Rattle.lists.proofs.Cond.{if-true, if-false}
+use borrow.Author.Tests.{ne_eqb}
+use Rattle.std.specs.Prelude.{Option, Some, None, Result, Ok, Err, ok_or}
+use Rattle.lists.proofs.Cond.{if-false}
 use Rattle.lists.specs.Bytes.{Bytes}
 use Rattle.reply.specs.declared.Reply.{Reply}
-use Rattle.reply.specs.Reply.{is_done, reply_number}
-use Rattle.pack_rule.specs.declared.Packing.{Packing}
+use Rattle.reply.specs.declared.Reply.TheVariants.{Done, TooManyTiles}
+use Rattle.reply.specs.Reply.{reply_number}
 use Rattle.pack_rule.specs.Greedy.{tile_count, packed_map, packed_defs}
-use Rattle.pack_rule.specs.Answer.{judged, answered}
-use Rattle.pack_rule.specs.Packs.{Packs}
-use Rattle.pack_rule.proofs.Answers.{answer-early, answer-judged, answered-done, answered-many, packs}
+use Rattle.pack_rule.specs.Answer.{judged, answered, fewest_answer, pack_answer}
+use Rattle.pack_rule.specs.Packs.{Packs, CountsFewest}
+use Rattle.pack_rule.proofs.Answers.{answer-early, answer-judged, answered-done, answered-many, demanded, packs}
+use Rattle.pack_entries.specs.Bounds.{PackedSoFar, Stepped}
 use Rattle.packer.specs.Bounds.{Counted, Written}
 
--- a count that stops past the number allowed gives the same answer
-pub answered-same : (pic : List ℕ) (allowed n : ℕ) → Counted pic allowed n → answered n allowed ≡ answered (tile_count pic) allowed
-answered-same pic allowed n w = go (leb n allowed) refl
-  where
-    go : (b : Bool) → leb n allowed ≡ b → answered n allowed ≡ answered (tile_count pic) allowed
-    go true e = ap (λ (k : ℕ). answered k allowed) (w.count-is (leb-true n allowed e))
-    go false e = let l = leb-false n allowed e in answered-many n allowed l ∙ sym (answered-many (tile_count pic) allowed (w.too_many l))
+-- the number that the packing of all cells answers
+pub counted-of : (pic : List ℕ) (offset : ℕ) (cells map : List ℕ) (allowed : ℕ) (r : Option ℕ)
+    → Stepped (λ n. PackedSoFar pic offset cells map n 1280) pic allowed 1280 r → Counted pic allowed r
+counted-of pic offset cells map allowed None w = w
+counted-of pic offset cells map allowed (Some n) w = (w.0, w.1.count)
 
--- a buffer that is written where the count is at most the number allowed is written where the packing is accepted
-left : (allowed n : ℕ) (a : Packing) → a ≡ answered n allowed → (x' x y : List ℕ) → (n ≤ allowed → x' ≡ y) → (allowed < n → x' ≡ x)
-    → x' ≡ cond (is_done a.reply) y x
-left allowed n a e x' x y written kept = go (leb n allowed) refl
-  where
-    go : (b : Bool) → leb n allowed ≡ b → x' ≡ cond (is_done a.reply) y x
-    go true h =
-        let l = leb-true n allowed h in
-        written l ∙ sym (if-true (is_done a.reply) y x (ap (λ (p : Packing). is_done p.reply) (e ∙ answered-done n allowed l)))
-    go false h =
-        let l = leb-false n allowed h in
-        kept l ∙ sym (if-false (is_done a.reply) y x (ap (λ (p : Packing). is_done p.reply) (e ∙ answered-many n allowed l)))
+-- a count of at most the number allowed, or none, gives the answer
+pub answered-same : (pic : List ℕ) (allowed : ℕ) (r : Option ℕ) → Counted pic allowed r → ok_or r TooManyTiles ≡ answered (tile_count pic) allowed
+answered-same pic allowed None w = sym (answered-many (tile_count pic) allowed w)
+answered-same pic allowed (Some n) w = sym (rw (← w.1) (answered-done n allowed w.0))
 
 module _ (pic : List ℕ) (allowed offset : ℕ) (map defs : List ℕ) (bytes : Bytes pic) where
   pub early : (r : Reply) → r ≡ judged (length pic) (length map) (length defs) allowed offset → (reply_number r ≡ 0 → ⊥)
-      → Packs pic allowed offset map defs map defs (record { reply = r; count = 0 })
+      → Packs pic allowed offset map defs map defs (Err r)
   early r e n =
       let f = ne_eqb (reply_number r) 0 n in
-      packs pic allowed offset map defs map defs (record { reply = r; count = 0 }) bytes
+      packs pic allowed offset map defs map defs (Err r) bytes
       (answer-early pic allowed offset (length map) (length defs) r e n) (sym (if-false _ _ _ f)) (sym (if-false _ _ _ f))
 
-  pub packed : reply_number (judged (length pic) (length map) (length defs) allowed offset) ≡ 0 → (map' defs' : List ℕ) (n : ℕ) (a : Packing)
-      → Written pic allowed offset map defs map' defs' n → a ≡ answered n allowed → Packs pic allowed offset map defs map' defs' a
-  packed z map' defs' n a w e =
-      packs pic allowed offset map defs map' defs' a bytes
-      (e ∙ answered-same pic allowed n w.counted ∙ answer-judged pic allowed offset (length map) (length defs) z)
-      (left allowed n a e map' map (packed_map pic offset) w.map-done w.map-left)
-      (left allowed n a e defs' defs (packed_defs pic) w.defs-done w.defs-left)
+  pub packed : judged (length pic) (length map) (length defs) allowed offset ≡ Done → (map' defs' : List ℕ) (r : Option ℕ)
+      → Written pic allowed offset map defs map' defs' r → Packs pic allowed offset map defs map' defs' (ok_or r TooManyTiles)
+  packed z map' defs' None w =
+      packs pic allowed offset map defs map' defs' (Err TooManyTiles) bytes
+      (answered-same pic allowed None w.0 ∙ answer-judged pic allowed offset (length map) (length defs) (ap reply_number z)) w.1 w.2
+  packed z map' defs' (Some n) w =
+      packs pic allowed offset map defs map' defs' (Ok n) bytes
+      (answered-same pic allowed (Some n) (w.0, w.1) ∙ answer-judged pic allowed offset (length map) (length defs) (ap reply_number z)) w.2 w.3
+
+-- the same without lent buffers
+module _ (pic : List ℕ) (bytes : Bytes pic) where
+  counted : (a : Result ℕ Reply) → a ≡ fewest_answer pic → CountsFewest pic a
+  counted a e = record { answer-is = e; demand = rw e (demanded pic 256 0 2560 8192 bytes) }
+
+  pub early-fewest : (r : Reply) → r ≡ judged (length pic) 2560 8192 256 0 → (reply_number r ≡ 0 → ⊥) → CountsFewest pic (Err r)
+  early-fewest r e n = counted (Err r) (answer-early pic 256 0 2560 8192 r e n)
+
+  pub counts-fewest : judged (length pic) 2560 8192 256 0 ≡ Done → (r : Option ℕ) → Counted pic 256 r → CountsFewest pic (ok_or r TooManyTiles)
+  counts-fewest z r w = counted (ok_or r TooManyTiles) (answered-same pic 256 r w ∙ answer-judged pic 256 0 2560 8192 (ap reply_number z))

@@ -1,16 +1,13 @@
 -- What the packer's steps leave; no part of what a packing is.
-use Rattle.std.specs.Prelude.{◌≡◌, List, ℕ, ◌≤◌, ◌<◌}
+use Rattle.std.specs.Prelude.{◌≡◌, List, ℕ, ◌≤◌, ◌<◌, Option, MatchOption}
 use Rattle.pack_rule.specs.Greedy.{tile_count, packed_map, packed_defs}
 
--- r definitions where they are at most allowed
-pub record Counted (pic : List ℕ) (allowed r : ℕ) : Type 0 where
-  pub count-is : r ≤ allowed → r ≡ tile_count pic
-  pub too_many : allowed < r → allowed < tile_count pic
+-- so many definitions, at most allowed, or the picture takes more
+abbrev pub Counted : List ℕ → ℕ → Option ℕ → Type 0
+Counted pic allowed r = MatchOption r (allowed < tile_count pic) (λ n. (n ≤ allowed) × (n ≡ tile_count pic))
 
--- the same, and the sheet is written where they are
-pub record Written (pic : List ℕ) (allowed offset : ℕ) (map defs map' defs' : List ℕ) (r : ℕ) : Type 0 where
-  pub counted : Counted pic allowed r
-  pub map-done : r ≤ allowed → map' ≡ packed_map pic offset
-  pub defs-done : r ≤ allowed → defs' ≡ packed_defs pic
-  pub map-left : allowed < r → map' ≡ map
-  pub defs-left : allowed < r → defs' ≡ defs
+-- the same, and the sheet is written where they are at most allowed, and left where there are more
+abbrev pub Written : List ℕ → ℕ → ℕ → List ℕ → List ℕ → List ℕ → List ℕ → Option ℕ → Type 0
+Written pic allowed offset map defs map' defs' r =
+    MatchOption r ((allowed < tile_count pic) × (map' ≡ map) × (defs' ≡ defs))
+    (λ n. (n ≤ allowed) × (n ≡ tile_count pic) × (map' ≡ packed_map pic offset) × (defs' ≡ packed_defs pic))

@@ -2,80 +2,50 @@
 // the functions of the module ask for what `judge` has established.
 #![tactic(auto)]
 
-ghost use Rattle.std.specs.Prelude.{◌≡◌};
-ghost use Rattle.pack_rule.specs.Answer.{judged, answered};
+ghost use Rattle.std.specs.Prelude.{◌≡◌, MatchResult};
+ghost use Rattle.reply.specs.declared.Reply.TheVariants.{Done};
+ghost use Rattle.reply.specs.Reply.{reply_number};
+ghost use Rattle.pack_rule.specs.Answer.{judged};
 ghost use Rattle.pack_rule.specs.Packs.{Packs, CountsFewest};
 
 mod sheet;
 
-pub use pack_rule::Packing;
 use reply::Reply;
 use sheet::{count, write};
 
 // The refusals that come before any cell is looked at, from the three lengths and the two numbers.
-fn judge(pic: usize, map: usize, defs: usize, allowed: usize, offset: usize) -> Reply
-    ensures { result ≡ judged pic map defs allowed offset }
+fn judge(pic: usize, map: usize, defs: usize, allowed: usize, offset: usize) -> Result<(), Reply>
+    ensures { MatchResult result (λ _. judged pic map defs allowed offset ≡ Done) (λ r. (r ≡ judged pic map defs allowed offset) × (reply_number r ≡ 0 → ⊥)) }
 {
     if (pic == 40960) & (map == 2560) & (defs == 8192) {
         if (allowed <= 256) & (offset <= 15) {
-            Reply::Done
+            Ok(())
         } else {
-            Reply::PackingBounds
+            Err(Reply::PackingBounds)
         }
     } else {
-        Reply::BufferLength
+        Err(Reply::BufferLength)
     }
 }
 
-// The answer to a packing that is not refused early: n definitions, or more than allowed.
-fn answer(n: usize, allowed: usize) -> Packing
-    ensures { result ≡ answered n allowed }
-{
-    if n <= allowed {
-        Packing {
-            reply: Reply::Done,
-            count: n,
-        }
-    } else {
-        Packing {
-            reply: Reply::TooManyTiles,
-            count: 0,
-        }
-    }
-}
-
-// Packs a picture into a map and definitions of at most `allowed` tiles, with a palette offset.
+// Packs a picture into a map and definitions of at most `allowed` tiles, with a palette offset. How many tiles the map names.
 pub fn pack(
     picture: &[u8],
     allowed: usize,
     offset: usize,
     map: &mut [u8],
     definitions: &mut [u8],
-) -> Packing
+) -> Result<usize, Reply>
     ensures { Packs picture.now allowed offset map.old definitions.old map.new definitions.new result }
 {
-    let early = judge(picture.len(), map.len(), definitions.len(), allowed, offset);
-    if reply::number(early) != 0 {
-        return Packing {
-            reply: early,
-            count: 0,
-        };
-    }
-    let n = write(picture, allowed, offset, map, definitions);
-    answer(n, allowed)
+    judge(picture.len(), map.len(), definitions.len(), allowed, offset)?;
+    write(picture, allowed, offset, map, definitions).ok_or(Reply::TooManyTiles)
 }
 
 // The fewest tiles that draw a picture: the answer of `pack` with 256 allowed and buffers of the right lengths.
-pub fn fewest(picture: &[u8]) -> Packing
+pub fn fewest(picture: &[u8]) -> Result<usize, Reply>
     ensures { CountsFewest picture.now result }
 {
-    let early = judge(picture.len(), 2560, 8192, 256, 0);
-    if reply::number(early) != 0 {
-        return Packing {
-            reply: early,
-            count: 0,
-        };
-    }
-    let n = count(picture, 256);
-    answer(n, 256)
+    judge(picture.len(), 2560, 8192, 256, 0)?;
+    count(picture, 256).ok_or(Reply::TooManyTiles)
 }

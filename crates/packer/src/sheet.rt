@@ -6,8 +6,8 @@ use lists::put;
 use pack_entries::pack_cells;
 use pack_parts::write_definitions;
 
-// How many definitions a picture takes, or one more than allowed.
-pub fn count(pic: &[u8], allowed: usize) -> usize
+// How many definitions a picture takes, or None where it takes more than allowed.
+pub fn count(pic: &[u8], allowed: usize) -> Option<usize>
     requires { (length pic.now ≡ 40960) × (allowed ≤ 256) }
     ensures { Counted pic.now allowed result }
 {
@@ -17,17 +17,20 @@ pub fn count(pic: &[u8], allowed: usize) -> usize
 }
 
 // The same, and the map and the definitions are written unless there are too many.
-pub fn write(pic: &[u8], allowed: usize, offset: usize, map: &mut [u8], defs: &mut [u8]) -> usize
+pub fn write(
+    pic: &[u8],
+    allowed: usize,
+    offset: usize,
+    map: &mut [u8],
+    defs: &mut [u8],
+) -> Option<usize>
     requires { (length pic.now ≡ 40960) × (allowed ≤ 256) × (offset < 16) × (length map.old ≡ 2560) × (length defs.old ≡ 8192) }
     ensures { Written pic.now allowed offset map.old defs.old map.new defs.new result }
 {
     let mut cells = [0usize; 256];
     let mut entries = [0u8; 2560];
-    let n = pack_cells(pic, offset, allowed, &mut cells, &mut entries);
-    if allowed < n {
-        return n;
-    }
+    let n = pack_cells(pic, offset, allowed, &mut cells, &mut entries)?;
     put(map, 0, &entries);
     write_definitions(pic, &cells, n, defs);
-    n
+    Some(n)
 }

@@ -1,5 +1,6 @@
 -- A line's pixels in a picture file: three bytes a dot, by the screen values.
 use Rattle.std.specs.Prelude.{ℕ, ◌/◌, ◌%◌, List, Bool, cond, ◌&&◌, not, length, get_or, leb, eqb}
+use Rattle.std.specs.Result.{result_unwrap_or}
 use Rattle.lists.specs.Tab.{tab}
 use Rattle.lists.specs.Search.{all}
 use Rattle.reply.specs.declared.Reply.{Reply}
@@ -15,9 +16,9 @@ is_colour dots k = leb (get_or dots k 0) 511
 unfoldable pub channel : ℕ → ℕ → ℕ
 channel value i = cond (eqb i 0) (value / 65536 % 256) (cond (eqb i 1) (value / 256 % 256) (value % 256))
 
--- byte k of a line's pixels
+-- byte k of a line's pixels: of a dot that is no colour, 0
 abbrev pub pixel_byte : List ℕ → ℕ → ℕ
-pixel_byte dots k = channel (screen_answer (get_or dots (k / 3) 0)).value (k % 3)
+pixel_byte dots k = channel (result_unwrap_or (screen_answer (get_or dots (k / 3) 0)) 0) (k % 3)
 
 -- 3 for a buffer of the wrong length, 10 for a number that is no colour
 unfoldable pub pixels_reply : List ℕ → List ℕ → Reply

@@ -24,29 +24,23 @@ fn pixel_byte(dots: &[u16], k: usize) -> u8
     requires { (length dots.now ≡ 640) × (k < 1920) }
     ensures { result ≡ pixel_byte dots.now k }
 {
-    let dot = dots[k / 3];
-    let screen = colour::screen_value(dot as u32);
-    channel_of(screen.value, k % 3)
+    let screen = colour::screen_value(u32::from(dots[k / 3]));
+    channel_of(screen.unwrap_or(0), k % 3)
 }
 
 fn all_colours(dots: &[u16]) -> bool
     requires { length dots.now ≡ 640 }
     ensures { result ≡ all (is_colour dots.now) 640 }
 {
-    for k in 0..640 {
-        if 511 < dots[k] {
-            return false;
-        }
-    }
-    true
+    dots.iter().all(|dot| *dot <= 511)
 }
 
 fn fill(dots: &[u16], out: &mut [u8])
     requires { (length dots.now ≡ 640) × (length out.old ≡ 1920) }
     ensures { out.new ≡ tab (pixel_byte dots.now) 1920 }
 {
-    for k in 0..1920 {
-        out[k] = pixel_byte(dots, k);
+    for (k, byte) in out.iter_mut().enumerate() {
+        *byte = pixel_byte(dots, k);
     }
 }
 

@@ -1,7 +1,10 @@
 // A record and two banks, and a trace where a fourth name is given.
-use crate::files::load;
-use crate::{complaints, output};
-use host::files::Read;
+use crate::output;
+use crate::output::{NO_ENTRIES, Scene};
+use host::complaints::Complaints;
+use host::files::read_argument;
+use host::records::RECORD_FILE;
+use record_fields::Fault;
 use std::io;
 use std::rt::{Env, Files};
 
@@ -10,78 +13,58 @@ const BANK: usize = 16385;
 
 const TRACE: usize = 65538;
 
-fn draw_record(
+fn draw_record<E: Print>(
     rt: &impl Print,
-    err: &impl Print,
+    complaints: &Complaints<E>,
     record: &[u8],
     ula: &[u8],
     tile: &[u8],
     trace: &[u8],
 ) -> io::Result<()> {
     let read = record::read_record(record);
-    let r = read.reply;
-    let place = read.place;
-    if reply::number(r) == 0 {
-        let s = read.state;
-        output::show_traced(rt, err, s, ula, tile, trace)
-    } else {
-        complaints::record_refused(err, r, place, record.len())
+    let reply = read.reply;
+    if !reply.is_done() {
+        let fault = Fault {
+            reply,
+            place: read.place,
+            length: record.len(),
+        };
+        return record_fields::refused(complaints, fault);
     }
+    let scene = Scene {
+        state: read.state,
+        ula,
+        tile,
+        trace,
+    };
+    output::show(rt, complaints, &scene)
 }
 
-fn load_trace(
+// What the arguments name; a trace without entries stands in for one that is not named.
+pub fn draw<E: Print>(
     rt: &(impl Print + Env + Files),
-    err: &impl Print,
-    record: &[u8],
-    ula: &[u8],
-    tile: &[u8],
+    complaints: &Complaints<E>,
+    traced: bool,
 ) -> io::Result<()> {
+    let mut record = [0u8; RECORD_FILE];
+    let Some(r) = read_argument(rt, complaints, 1, &mut record)? else {
+        return Ok(());
+    };
+    let mut ula = [0u8; BANK];
+    let Some(u) = read_argument(rt, complaints, 2, &mut ula)? else {
+        return Ok(());
+    };
+    let mut tile = [0u8; BANK];
+    let Some(t) = read_argument(rt, complaints, 3, &mut tile)? else {
+        return Ok(());
+    };
+    let (record, ula, tile) = (&record[..r], &ula[..u], &tile[..t]);
+    if !traced {
+        return draw_record(rt, complaints, record, ula, tile, &NO_ENTRIES);
+    }
     let mut trace = [0u8; TRACE];
-    match load(rt, err, 4, &mut trace)? {
-        Read::Bytes(n) => draw_record(rt, err, record, ula, tile, &trace[..n]),
-        Read::Missing => Ok(()),
-    }
-}
-
-// A trace without entries stands in for one that is not named.
-fn draw_banks(
-    rt: &(impl Print + Env + Files),
-    err: &impl Print,
-    record: &[u8],
-    ula: &[u8],
-    tile: &[u8],
-    names: usize,
-) -> io::Result<()> {
-    if names == 4 {
-        load_trace(rt, err, record, ula, tile)
-    } else {
-        draw_record(rt, err, record, ula, tile, &output::NO_ENTRIES)
-    }
-}
-
-fn load_tiles(
-    rt: &(impl Print + Env + Files),
-    err: &impl Print,
-    record: &[u8],
-    ula: &[u8],
-    names: usize,
-) -> io::Result<()> {
-    let mut bank = [0u8; BANK];
-    match load(rt, err, 3, &mut bank)? {
-        Read::Bytes(n) => draw_banks(rt, err, record, ula, &bank[..n], names),
-        Read::Missing => Ok(()),
-    }
-}
-
-pub fn load_ula(
-    rt: &(impl Print + Env + Files),
-    err: &impl Print,
-    record: &[u8],
-    names: usize,
-) -> io::Result<()> {
-    let mut bank = [0u8; BANK];
-    match load(rt, err, 2, &mut bank)? {
-        Read::Bytes(n) => load_tiles(rt, err, record, &bank[..n], names),
-        Read::Missing => Ok(()),
+    match read_argument(rt, complaints, 4, &mut trace)? {
+        Some(n) => draw_record(rt, complaints, record, ula, tile, &trace[..n]),
+        None => Ok(()),
     }
 }

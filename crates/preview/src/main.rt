@@ -5,55 +5,40 @@
 #![tactic(auto)]
 
 mod banks;
-mod complaints;
-mod files;
 mod output;
 mod screens;
 
-use files::load;
 use host::arguments;
-use host::files::Read;
-use host::records::RECORD_FILE;
+use host::complaints::Complaints;
+use output::{NO_ENTRIES, Scene};
 use std::io;
-use std::rt::{Env, Files};
 
-fn draw_example(rt: &impl Print, err: &impl Print) -> io::Result<()> {
+fn draw_example<E: Print>(rt: &impl Print, complaints: &Complaints<E>) -> io::Result<()> {
     let ula = example_screen::example_ula();
-    let tiles = example_screen::example_tiles();
-    output::show(rt, err, example_screen::example_state(), &ula, &tiles)
-}
-
-// A record, and what the names after it are: a screen file, or two banks, or these and a trace.
-fn draw_named(
-    rt: &(impl Print + Env + Files),
-    err: &impl Print,
-    record: &[u8],
-    names: usize,
-) -> io::Result<()> {
-    if names == 2 {
-        screens::draw_with(rt, err, record)
-    } else {
-        banks::load_ula(rt, err, record, names)
-    }
-}
-
-fn load_record(rt: &(impl Print + Env + Files), err: &impl Print, names: usize) -> io::Result<()> {
-    let mut record = [0u8; RECORD_FILE];
-    match load(rt, err, 1, &mut record)? {
-        Read::Bytes(n) => draw_named(rt, err, &record[..n], names),
-        Read::Missing => Ok(()),
-    }
+    let tile = example_screen::example_tiles();
+    let scene = Scene {
+        state: example_screen::example_state(),
+        ula: &ula,
+        tile: &tile,
+        trace: &NO_ENTRIES,
+    };
+    output::show(rt, complaints, &scene)
 }
 
 // The first argument is the program's own name.
 fn main(rt: HostRuntime) -> io::Result<()> {
-    let err = rt.stderr();
+    let complaints = Complaints {
+        err: rt.stderr(),
+        program: b"preview",
+    };
     match arguments::count(&rt) {
-        0 | 1 => draw_example(&rt, &err),
-        2 => screens::draw_standard(&rt, &err),
-        3 => load_record(&rt, &err, 2),
-        4 => load_record(&rt, &err, 3),
-        5 => load_record(&rt, &err, 4),
-        _ => complaints::usage(&err),
+        0 | 1 => draw_example(&rt, &complaints),
+        2 => screens::draw_standard(&rt, &complaints),
+        3 => screens::draw_with(&rt, &complaints),
+        4 => banks::draw(&rt, &complaints, false),
+        5 => banks::draw(&rt, &complaints, true),
+        _ => complaints.say(
+            "give no argument, or SCREEN, or RECORD SCREEN, or RECORD ULA-BANK TILE-BANK, or RECORD ULA-BANK TILE-BANK TRACE",
+        ),
     }
 }

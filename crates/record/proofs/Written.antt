@@ -5,7 +5,8 @@ use mathlib.Core.Bool.{Bool, true, false, cond}
 use Prim.Native.Nat.{ℕ}
 use lib.ListN.{length}
 use lib.Dec.{eqb}
-use borrow.Author.Tests.{eqb-true, ne_eqb}
+use native.Mathlib.Omega.{arith}
+use borrow.Author.Tests.{eqb-true}
 use Rattle.lists.proofs.Cond.{if-true, if-false}
 use Rattle.reply.specs.declared.Reply.{Reply}
 use Rattle.reply.specs.declared.Reply.TheVariants.{Done, BufferLength, NotLawful}
@@ -33,13 +34,16 @@ unput true false written target d = refl
 unput false lawful written target d = refl
 
 module _ (target : List ℕ) (s : State) (r : Reply) (er : r ≡ write_reply target s) where
-  -- every answer but 3 has met the length
-  pub long-enough : (reply_number r ≡ 3 → ⊥) → length target ≡ record_length current
-  long-enough z = go (eqb (length target) (record_length current)) refl
+  -- an answer that is not the refusal of the length has met it
+  met_length : (r ≡ BufferLength → ⊥) → length target ≡ record_length current
+  met_length z = go (eqb (length target) (record_length current)) refl
     where
       go : (b : Bool) → eqb (length target) (record_length current) ≡ b → length target ≡ record_length current
       go true e = eqb-true (length target) (record_length current) e
-      go false e = absurd (z (ap reply_number (er ∙ if-false (eqb (length target) (record_length current)) _ _ e)))
+      go false e = absurd (z (er ∙ if-false (eqb (length target) (record_length current)) _ _ e))
+
+  pub long-enough : r ≡ Done → length target ≡ record_length current
+  long-enough d = met_length (λ e. let n : ◌≡◌ {A = ℕ} 0 3 = ap reply_number (sym d ∙ e) in omega arith)
 
   pub put_whole : (after : List ℕ) → r ≡ Done → after ≡ record_of s → (r ≡ write_reply target s) × (after ≡ written_in target s)
   put_whole after d e =
@@ -47,7 +51,7 @@ module _ (target : List ℕ) (s : State) (r : Reply) (er : r ≡ write_reply tar
       let h = (test-met (lawful_state s) Done NotLawful refl l.1).0 in
       (er, e ∙ sym (if-true (eqb (length target) (record_length current)) _ _ l.0 ∙ if-true (lawful_state s) _ _ h))
 
-  pub left_alone : (reply_number r ≡ 0 → ⊥) → (r ≡ write_reply target s) × (target ≡ written_in target s)
+  pub left_alone : is_done r ≡ false → (r ≡ write_reply target s) × (target ≡ written_in target s)
   left_alone z =
-      let f : is_done (write_reply target s) ≡ false = sym (ap is_done er) ∙ ne_eqb (reply_number r) 0 z in
+      let f : is_done (write_reply target s) ≡ false = sym (ap is_done er) ∙ z in
       (er, unput (eqb (length target) (record_length current)) (lawful_state s) (record_of s) target f)

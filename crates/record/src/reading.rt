@@ -6,7 +6,6 @@ use record_layout::{Judgement, RecordRead, Version};
 use record_parts::state_at;
 use record_places::version_of;
 use record_stages::judge;
-use reply::number;
 use state::reset;
 
 // The state in a record of a lawful state in a version; or reply 16, 17 or 18, its place, and the reset state.
@@ -16,7 +15,7 @@ pub fn read_as(bytes: &[u8], v: Version) -> RecordRead
     let judgement = judge(bytes, v);
     let reply = judgement.reply;
     let place = judgement.place;
-    if number(reply) == 0 {
+    if reply.is_done() {
         let state = state_at(bytes, v);
         RecordRead {
             reply,
@@ -47,7 +46,7 @@ pub fn read_record(bytes: &[u8]) -> RecordRead
     read_as(bytes, version_of(bytes.len()))
 }
 
-// The reader of version 1: to it a record of version 2 is 17.
+// The reader of version 1: to it a record of version 2 is 17. It and `read_current` are calls of users, whose names may not change.
 pub fn read_old(bytes: &[u8]) -> RecordRead
     ensures { result ≡ read_old bytes.now }
 {

@@ -8,7 +8,7 @@ ghost use Rattle.record_layout.specs.Record.{record_length, write_reply, written
 use record_layout::Version;
 use record_parts::put_record;
 use record_places::length_of;
-use reply::{Reply, first_of, length_reply, number};
+use reply::{Reply, first_of, length_reply};
 use state::{State, lawful_reply};
 
 // What refuses a writing, the length before the state.
@@ -25,7 +25,7 @@ pub fn write_record(state: State, target: &mut [u8]) -> Reply
     ensures { (result ≡ write_reply target.old state) × (target.new ≡ written_in target.old state) }
 {
     let r = write_reply(target.len(), state);
-    if number(r) == 0 {
+    if r.is_done() {
         put_record(state, target);
     }
     r

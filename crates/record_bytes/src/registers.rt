@@ -1,6 +1,5 @@
 // The bytes of a record's registers, in the order of the layout.
 ghost use Rattle.std.specs.Prelude.{◌≡◌, take, drop};
-ghost use Rattle.record_layout.specs.Fields.{flag_byte};
 ghost use Rattle.record_layout.specs.Parts.{bytes_of};
 ghost use Rattle.record_layout.specs.Layout.{after_scrolls};
 ghost use Rattle.record_layout.specs.Version.{current};
@@ -43,27 +42,19 @@ pub fn before_clips(s: State) -> [u8; 23]
     ]
 }
 
-fn flag_byte(flag: bool) -> u8
-    ensures { result ≡ flag_byte flag }
-{
-    if flag { 1 } else { 0 }
-}
-
 // The nine parts after the clips.
 pub fn after_clips(s: State) -> [u8; 9]
     ensures { result ≡ bytes_of (take 9 (drop 2 after_scrolls)) s }
 {
-    let held = flag_byte(s.palette.held);
-    let plus = flag_byte(s.ports.plus);
     [
         s.turns.ula,
         s.turns.tiles,
-        held,
+        u8::from(s.palette.held),
         s.palette.half,
         s.ports.border,
         s.ports.timex,
         s.ports.select,
-        plus,
+        u8::from(s.ports.plus),
         s.frame,
     ]
 }

@@ -4,8 +4,9 @@ use mathlib.Core.List.{List}
 use mathlib.Core.Bool.{true, not}
 use Prim.Native.Nat.{ℕ, ◌+◌, ◌*◌, ◌≤◌, ◌<◌}
 use native.Mathlib.Omega.{arith}
-use lib.Dec.{leb, ltb}
-use lib.ListN.{get_or}
+use lib.Dec.{ltb}
+use lib.ListN.{take, drop, get_or}
+use lib.Seq.{get_or-take, get_or-drop}
 use borrow.Author.Tests.{le-leb, lt-leb, lt-ltb, le-ltb}
 use Rattle.lists.proofs.Cond.{if-true, if-false}
 use Rattle.lists.proofs.Search.{least-here, least-none}
@@ -17,6 +18,12 @@ use Rattle.record_layout.proofs.BadAt.{high_byte_lem}
 -- the colours before one are colours
 abbrev pub Fit : List ℕ → ℕ → ℕ → Type 0
 Fit b at n = (i : ℕ) → i < n → colour_fits (field_at pair b (at + 2 * i)) ≡ true
+
+-- the high bytes in a part that is cut out
+pub high_of : (b : List ℕ) (at n i : ℕ) → i * 2 < n → get_or (take n (drop at b)) (i * 2) 0 ≡ get_or b (at + 2 * i) 0
+high_of b at n i h =
+    let e : at + i * 2 ≡ at + 2 * i = omega arith in
+    get_or-take n (drop at b) (i * 2) 0 h ∙ get_or-drop at b (i * 2) 0 ∙ ap (λ (k : ℕ). get_or b k 0) e
 
 module _ (b : List ℕ) (at : ℕ) where
   pub fits-here : (i : ℕ) → get_or b (at + 2 * i) 0 ≤ 1 → get_or b (at + 2 * i + 1) 0 < 256 → colour_fits (field_at pair b (at + 2 * i)) ≡ true

@@ -8,12 +8,9 @@ pub fn put_colours(target: &mut [u8], at: usize, src: &[u16])
     requires { at + 2 * length src.now ≤ length target.old }
     ensures { target.new ≡ placed target.old at (row_bytes pair src.now) }
 {
-    let mut i = 0;
-    while i < src.len() {
-        let c = src[i];
+    for (i, c) in src.iter().enumerate() {
         let o = at + 2 * i;
-        target[o] = (c / 256) as u8;
-        target[o + 1] = (c % 256) as u8;
-        i += 1;
+        target[o] = (*c / 256) as u8;
+        target[o + 1] = (*c % 256) as u8;
     }
 }

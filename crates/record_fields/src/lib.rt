@@ -5,4 +5,4 @@ mod parts;
 mod table;
 
 pub use parts::part_at;
-pub use table::{refused, tell_fault};
+pub use table::{Fault, refused};

@@ -29,17 +29,10 @@ fn part_ends() -> [usize; 36]
     ]
 }
 
-// The number of the part, counted from 0, that a place of version 2 stands in; the first where it stands before all, 36 past the end.
+// The number of the part, counted from 0, that a place of version 2 stands in; 36 where it is past the end.
 pub fn part_at(place: usize) -> usize
     ensures { result ≡ part_at place }
 {
     let ends = part_ends();
-    let mut i = 0;
-    while i < 36 {
-        if place < ends[i] {
-            return i;
-        }
-        i += 1;
-    }
-    36
+    ends.iter().position(|end| place < *end).unwrap_or(36)
 }

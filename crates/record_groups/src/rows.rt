@@ -13,11 +13,7 @@ pub fn plus_at(b: &[u8], v: Version) -> [u8; 64]
 {
     let first = in_version(v, places::PLUS);
     let mut registers = [0u8; 64];
-    let mut i = 0;
-    while i < 64 {
-        registers[i] = b[first + i];
-        i += 1;
-    }
+    registers.copy_from_slice(&b[first..first + 64]);
     registers
 }
 
@@ -28,6 +24,7 @@ fn four_at(b: &[u8], at: usize) -> [u8; 4]
     [b[at], b[at + 1], b[at + 2], b[at + 3]]
 }
 
+// Not one function with `tile_clip_at`, which would be no plainer: `four_at` has what they share, and each promises a field of its own.
 pub fn ula_clip_at(b: &[u8], v: Version) -> [u8; 4]
     requires { ula_first_place v ≤ length b.now }
     ensures { result ≡ (state_as v b.now).ulaclip }

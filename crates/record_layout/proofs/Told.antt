@@ -7,9 +7,9 @@ use Prim.Native.Nat.{ℕ, ◌+◌, ◌≤◌, ◌<◌}
 use native.Mathlib.Omega.{arith}
 use lib.ListN.{length}
 use borrow.Author.Tests.{eqb-false}
-use Rattle.reply.specs.declared.Reply.TheVariants.{Done, BadField}
+use Rattle.reply.specs.declared.Reply.{Reply}
+use Rattle.reply.specs.declared.Reply.TheVariants.{Done, WrongVersion, BadField}
 use Rattle.reply.specs.Reply.{reply_number}
-use Rattle.reply.proofs.Claims.{number_tells}
 use Rattle.record_layout.specs.Parts.{sizes}
 use Rattle.record_layout.specs.declared.Version.{Version}
 use Rattle.record_layout.specs.declared.Version.TheVariants.{Version1, Version2}
@@ -77,26 +77,26 @@ place-small v b = go (counted b) (versioned v b) refl (sound v b)
     go true false e z = omega arith
     go false y e z = omega arith
 
--- the place by the reply's number: 18, 17, and any other
-module _ (v : Version) (b : List ℕ) (n : ℕ) (e : n ≡ reply_number (judged v b).reply) where
-  pub told-18 : n ≡ 18 → Bad v b
-  told-18 h = bad-field v b (number_tells (judged v b).reply BadField (sym e ∙ h))
+-- the place by the reply: a bad field's, the version's, and 0 for any other
+module _ (v : Version) (b : List ℕ) (r : Reply) (e : r ≡ (judged v b).reply) where
+  pub told-field : r ≡ BadField → Bad v b
+  told-field h = bad-field v b (sym e ∙ h)
 
-  pub told-17 : n ≡ 17 → 2 ≡ (judged v b).place
+  pub told-version : r ≡ WrongVersion → 2 ≡ (judged v b).place
   unfolding judged
-  told-17 h = go (counted b) (versioned v b) (sound v b) (sym e ∙ h)
+  told-version h = go (counted b) (versioned v b) (sound v b) (sym e ∙ h)
     where
-      go : (x y z : Bool) → reply_number (staged v b x y z).reply ≡ 17 → 2 ≡ (staged v b x y z).place
-      go true true true q = absurd (omega arith)
-      go true true false q = absurd (omega arith)
+      go : (x y z : Bool) → (staged v b x y z).reply ≡ WrongVersion → 2 ≡ (staged v b x y z).place
+      go true true true q = absurd (let n : ◌≡◌ {A = ℕ} 0 17 = ap reply_number q in omega arith)
+      go true true false q = absurd (let n : ◌≡◌ {A = ℕ} 18 17 = ap reply_number q in omega arith)
       go true false z q = refl
-      go false y z q = absurd (omega arith)
+      go false y z q = absurd (let n : ◌≡◌ {A = ℕ} 16 17 = ap reply_number q in omega arith)
 
-  pub told-else : (n ≡ 18 → ⊥) → (n ≡ 17 → ⊥) → 0 ≡ (judged v b).place
+  pub told-else : (r ≡ BadField → ⊥) → (r ≡ WrongVersion → ⊥) → 0 ≡ (judged v b).place
   unfolding judged
   told-else h k = go (counted b) (versioned v b) (sound v b) (λ q. h (e ∙ q)) (λ q. k (e ∙ q))
     where
-      go : (x y z : Bool) → (reply_number (staged v b x y z).reply ≡ 18 → ⊥) → (reply_number (staged v b x y z).reply ≡ 17 → ⊥) → 0 ≡ (staged v b x y z).place
+      go : (x y z : Bool) → ((staged v b x y z).reply ≡ BadField → ⊥) → ((staged v b x y z).reply ≡ WrongVersion → ⊥) → 0 ≡ (staged v b x y z).place
       go true true true p q = refl
       go true true false p q = absurd (p refl)
       go true false z p q = absurd (q refl)

@@ -12,14 +12,15 @@ pub enum Version {
     Version2,
 }
 
-// What bytes are refused for as a record, and the place that tells where, counted from the front; 0 where nothing is told.
+// What bytes are refused for as a record, and the place that tells where, counted from the front; 0 where nothing is told,
+// which may not change, so that this is no Result.
 #[derive(Clone, Copy)]
 pub struct Judgement {
     pub reply: Reply,
     pub place: usize,
 }
 
-// What reading bytes answers: their judgement, and the state in them.
+// What reading bytes answers: their judgement, and the state in them. No Result: that a refused reading gives the reset state may not change.
 #[derive(Clone, Copy)]
 pub struct RecordRead {
     pub reply: Reply,

@@ -9,7 +9,7 @@ ghost use Rattle.record_moves.specs.Moves.{pairs_reply, move_judged, moved_in};
 use crate::bytes::{pairs_agree, put_in};
 use record_layout::{Judgement, Version};
 use record_places::{length_of, other_version};
-use reply::{Reply, length_reply, number};
+use reply::{Reply, length_reply};
 
 // What the record is refused for: 16, 17 or 18 with its place, then 15, which tells none.
 fn judge_moved(b: &[u8], v: Version) -> Judgement
@@ -17,7 +17,7 @@ fn judge_moved(b: &[u8], v: Version) -> Judgement
 {
     let judgement = record::judge(b, v);
     let reply = judgement.reply;
-    if number(reply) == 0 {
+    if reply.is_done() {
         if pairs_agree(b, v) {
             judgement
         } else {
@@ -35,7 +35,7 @@ fn judge_moved(b: &[u8], v: Version) -> Judgement
 fn target_first(long: Reply, stored: Judgement) -> Judgement
     ensures { result ≡ told (first_of long stored.reply) (cond (is_done long) stored.place 0) }
 {
-    if number(long) == 0 {
+    if long.is_done() {
         stored
     } else {
         Judgement {
@@ -54,13 +54,14 @@ fn move_record(b: &[u8], v: Version, target: &mut [u8]) -> Judgement
     let stored = judge_moved(b, v);
     let answer = target_first(long, stored);
     let r = answer.reply;
-    if number(r) == 0 {
+    if r.is_done() {
         put_in(b, v, w, target);
     }
     answer
 }
 
-// A record of version 1 as the record of version 2 of the same state, whose $26 and $27 are its $32 and $33.
+// A record of version 1 as the record of version 2 of the same state, whose $26 and $27 are its $32 and $33. This and `move_back` are calls
+// of users, whose names may not change.
 pub fn move_up(old: &[u8], target: &mut [u8]) -> Judgement
     ensures { (result ≡ move_judged Version1 old.now (length target.old)) × (target.new ≡ moved_in Version1 old.now target.old) }
 {

@@ -1,4 +1,5 @@
-// What the versions of a record differ in: their number, their length, and how far the parts after $33 stand.
+// What the versions of a record differ in: their number, their length, and how far the parts after $33 stand. Functions, not methods or a
+// From of Version, since those stand in its crate, and it is a rule that record_layout has no code but the types.
 ghost use Rattle.std.specs.Prelude.{◌≡◌, ◌+◌, ◌≤◌};
 ghost use Rattle.record_layout.specs.declared.Version.TheVariants.{Version1};
 ghost use Rattle.record_layout.specs.Version.{version_number, other, added as added_bytes};

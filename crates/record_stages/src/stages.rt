@@ -1,15 +1,13 @@
 // Each stage asks for what the one before it has shown.
 ghost use Rattle.std.specs.Prelude.{◌≡◌, false, ◌&&◌, ◌<◌, length};
-ghost use Rattle.reply.specs.Reply.{reply_number};
 ghost use Rattle.state.specs.Lawful.{all_colours};
 ghost use Rattle.record_layout.specs.Places.{version_place};
 ghost use Rattle.record_layout.specs.Record.{record_length, counted, versioned, sound, accepted, judged, state_as};
 
-use lists::usize_of;
 use record_faults::first_bad;
 use record_layout::{Judgement, Version};
 use record_places::{added, following_of, length_of, number_of, places};
-use reply::{Reply, number};
+use reply::Reply;
 use state::lawful_registers;
 
 fn has_count(b: &[u8]) -> bool
@@ -18,7 +16,7 @@ fn has_count(b: &[u8]) -> bool
     if b.len() < 2 {
         return false;
     }
-    let following = usize_of(b[places::COUNT]) * 256 + usize_of(b[places::COUNT + 1]);
+    let following = usize::from(b[places::COUNT]) * 256 + usize::from(b[places::COUNT + 1]);
     let first = following_of(Version::Version1);
     let second = following_of(Version::Version2);
     (b.len() == 2 + following) & ((following == first) | (following == second))
@@ -67,15 +65,7 @@ fn has_bounds(b: &[u8], v: Version) -> bool
 fn is_record(b: &[u8], v: Version) -> bool
     ensures { result ≡ accepted v b.now }
 {
-    if has_count(b) {
-        if has_version(b, v) {
-            has_bounds(b, v)
-        } else {
-            false
-        }
-    } else {
-        false
-    }
+    has_count(b) && has_version(b, v) && has_bounds(b, v)
 }
 
 // What bytes that are no such record are refused for: 16, 17, 18.
@@ -83,14 +73,12 @@ fn refusal_of(b: &[u8], v: Version) -> Reply
     requires { accepted v b.now ≡ false }
     ensures { result ≡ (judged v b.now).reply }
 {
-    if has_count(b) {
-        if has_version(b, v) {
-            Reply::BadField
-        } else {
-            Reply::WrongVersion
-        }
-    } else {
+    if !has_count(b) {
         Reply::WrongCount
+    } else if !has_version(b, v) {
+        Reply::WrongVersion
+    } else {
+        Reply::BadField
     }
 }
 
@@ -107,16 +95,14 @@ pub fn reply_as(b: &[u8], v: Version) -> Reply
 }
 
 // The place that the reply tells. Fields are walked over only where one is bad.
-fn place_of(b: &[u8], v: Version, n: u8) -> usize
-    requires { n ≡ reply_number (judged v b.now).reply }
+fn place_of(b: &[u8], v: Version, reply: Reply) -> usize
+    requires { reply ≡ (judged v b.now).reply }
     ensures { result ≡ (judged v b.now).place }
 {
-    if n == 18 {
-        first_bad(b, v)
-    } else if n == 17 {
-        places::VERSION
-    } else {
-        places::COUNT
+    match reply {
+        Reply::BadField => first_bad(b, v),
+        Reply::WrongVersion => places::VERSION,
+        _ => places::COUNT,
     }
 }
 
@@ -125,6 +111,6 @@ pub fn judge(b: &[u8], v: Version) -> Judgement
     ensures { result ≡ judged v b.now }
 {
     let reply = reply_as(b, v);
-    let place = place_of(b, v, number(reply));
+    let place = place_of(b, v, reply);
     Judgement { reply, place }
 }

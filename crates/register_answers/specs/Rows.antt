@@ -1,11 +1,10 @@
 -- Rule 9.9: tables of registers or ports, a row for each number, with what writing it or reading it does.
-use Rattle.std.specs.Prelude.{ℕ, List, [], ◌∷◌, cond, eqb}
+use Rattle.std.specs.Prelude.{ℕ, List, [], ◌∷◌, cond, eqb, Err}
 use Rattle.reply.specs.declared.Reply.TheVariants.{NoRegister}
 use Rattle.state.specs.declared.State.{State}
 use Rattle.state.specs.declared.Answer.{Answer}
 use Rattle.state.specs.Answer.{refused}
-use Rattle.register_answers.specs.declared.Reading.{Reading}
-use Rattle.register_answers.specs.Answers.{unread}
+use Rattle.register_answers.specs.Answers.{Reading}
 
 pub record WriteRow : Type 0 where
   pub number : ℕ
@@ -26,7 +25,7 @@ pub record ReadRow : Type 0 where
 abbrev pub reads : ℕ → (State → Reading) → ReadRow
 reads n f = record { number = n; reading = f }
 
--- 9, no such register or port, or not that way: a read gives 0
+-- 9, no such register or port, or not that way
 abbrev pub read_by : List ReadRow → State → ℕ → Reading
-read_by [] s n = unread NoRegister
+read_by [] s n = Err NoRegister
 read_by (r ∷ rs) s n = cond (eqb n r.number) (r.reading s) (read_by rs s n)

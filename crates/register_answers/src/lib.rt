@@ -9,17 +9,10 @@ ghost use Rattle.register_answers.specs.Answers.{if_fits};
 
 mod reads;
 
-pub use reads::{give, no_read};
+pub use reads::no_read;
 use register_parts::{Registers, Written};
 use reply::Reply;
 use state::{Answer, State};
-
-// What a read answers: its reply and the byte, 0 where it is refused.
-#[derive(Clone, Copy)]
-pub struct Reading {
-    pub reply: Reply,
-    pub value: u8,
-}
 
 // For calls on a whole state.
 pub fn accept(s: State) -> Answer

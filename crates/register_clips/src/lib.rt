@@ -1,24 +1,29 @@
 // The clips of the ULA and of the tilemap, written and read a coordinate at a time, and their turns.
 #![tactic(auto)]
 
-ghost use Rattle.std.specs.Prelude.{◌≡◌};
+ghost use Rattle.std.specs.Prelude.{◌≡◌, set};
 ghost use Rattle.register_parts.specs.Parts.{bare, written_of};
-ghost use Rattle.register_clips.specs.Clips.{ula_clip_written, tile_clip_written, restarted, turns_written, clip_next, turns_read};
+ghost use Rattle.register_clips.specs.Clips.{coordinate, next_turn, ula_clip_written, tile_clip_written, restarted, turns_written, clip_next, turns_read};
 
 use register_answers::{accept_apart, if_fits};
 use register_parts::{Registers, Written};
 use state::State;
 
+// Sets the coordinate that is next, and moves the turn on.
+fn put_next(clip: &mut [u8; 4], turn: &mut u8, value: u8)
+    ensures { (clip.new ≡ set clip.old (coordinate turn.old) value) × (turn.new ≡ next_turn turn.old) }
+{
+    let next = *turn % 4;
+    clip[usize::from(next)] = value;
+    *turn = (next + 1) % 4;
+}
+
 // $1A
 pub fn write_ula_clip(g: Registers, value: u8) -> Written
     ensures { result ≡ written_of (ula_clip_written (bare g) value) }
 {
-    let turn = g.turns.ula % 4;
-    let i = turn as usize;
-    let next = (turn + 1) % 4;
     let mut t = g;
-    t.ulaclip[i] = value;
-    t.turns.ula = next;
+    put_next(&mut t.ulaclip, &mut t.turns.ula, value);
     accept_apart(t)
 }
 
@@ -26,12 +31,8 @@ pub fn write_ula_clip(g: Registers, value: u8) -> Written
 pub fn write_tile_clip(g: Registers, value: u8) -> Written
     ensures { result ≡ written_of (tile_clip_written (bare g) value) }
 {
-    let turn = g.turns.tiles % 4;
-    let i = turn as usize;
-    let next = (turn + 1) % 4;
     let mut t = g;
-    t.tileclip[i] = value;
-    t.turns.tiles = next;
+    put_next(&mut t.tileclip, &mut t.turns.tiles, value);
     accept_apart(t)
 }
 
@@ -55,20 +56,14 @@ pub fn write_turns(g: Registers, value: u8) -> Written
     if_fits(ok, t, g)
 }
 
-pub fn ula_clip_next(s: State) -> u8
-    ensures { result ≡ clip_next s.ulaclip s.turns.ula }
+// $1A and $1B, each of its clip and turn.
+pub fn clip_next(clip: [u8; 4], turn: u8) -> u8
+    ensures { result ≡ clip_next clip turn }
 {
-    let i = (s.turns.ula % 4) as usize;
-    s.ulaclip[i]
+    clip[usize::from(turn % 4)]
 }
 
-pub fn tile_clip_next(s: State) -> u8
-    ensures { result ≡ clip_next s.tileclip s.turns.tiles }
-{
-    let i = (s.turns.tiles % 4) as usize;
-    s.tileclip[i]
-}
-
+// $1C
 pub fn read_turns(s: State) -> u8
     ensures { result ≡ turns_read s }
 {

@@ -7,7 +7,7 @@ ghost use Rattle.register_parts.specs.Parts.{state_with};
 ghost use Rattle.register_colours.specs.Colours.{colour_at, colour_stored, next_index, colour_put};
 
 use register_bounds::choice_of;
-use register_parts::Registers;
+use register_parts::{Palettes, Registers};
 use state::State;
 use state_bits::index_stays;
 
@@ -26,23 +26,16 @@ pub fn chosen_colour(s: State) -> u16
 }
 
 // Stores a colour where the palette registers point.
-fn store_colour(
-    g: Registers,
-    colour: u16,
-    ulafirst: &mut [u16; 256],
-    ulasecond: &mut [u16; 256],
-    tilefirst: &mut [u16; 256],
-    tilesecond: &mut [u16; 256],
-)
-    ensures { state_with g ulafirst.new ulasecond.new tilefirst.new tilesecond.new ≡ colour_stored (state_with g ulafirst.old ulasecond.old tilefirst.old tilesecond.old) (choice_of g.palette.control) g.palette.index colour }
+fn store_colour(g: Registers, colour: u16, p: &mut Palettes)
+    ensures { state_with g p.new ≡ colour_stored (state_with g p.old) (choice_of g.palette.control) g.palette.index colour }
 {
     let i = g.palette.index as usize;
     let choice = choice_of(g.palette.control);
     match choice {
-        0 => ulafirst[i] = colour,
-        4 => ulasecond[i] = colour,
-        3 => tilefirst[i] = colour,
-        _ => tilesecond[i] = colour,
+        0 => p.ulafirst[i] = colour,
+        4 => p.ulasecond[i] = colour,
+        3 => p.tilefirst[i] = colour,
+        _ => p.tilesecond[i] = colour,
     }
 }
 
@@ -57,23 +50,14 @@ fn next_index(control: u8, index: u8) -> u8
 }
 
 // A colour stored where the palette registers point; the index moves, and no half is held.
-pub fn put_colour(
-    g: Registers,
-    colour: u16,
-    ulafirst: &mut [u16; 256],
-    ulasecond: &mut [u16; 256],
-    tilefirst: &mut [u16; 256],
-    tilesecond: &mut [u16; 256],
-) -> Registers
-    ensures { state_with result ulafirst.new ulasecond.new tilefirst.new tilesecond.new ≡ colour_put (state_with g ulafirst.old ulasecond.old tilefirst.old tilesecond.old) colour }
+pub fn put_colour(g: Registers, colour: u16, p: &mut Palettes) -> Registers
+    ensures { state_with result p.new ≡ colour_put (state_with g p.old) colour }
 {
-    let mut p = g.palette;
-    store_colour(g, colour, ulafirst, ulasecond, tilefirst, tilesecond);
-    let next = next_index(p.control, p.index);
-    p.index = next;
-    p.held = false;
-    p.half = 0;
+    store_colour(g, colour, p);
+    let next = next_index(g.palette.control, g.palette.index);
     let mut t = g;
-    t.palette = p;
+    t.palette.index = next;
+    t.palette.held = false;
+    t.palette.half = 0;
     t
 }

@@ -3,6 +3,7 @@ use mathlib.Core.Path.{◌≡◌, refl}
 use mathlib.Core.Bool.{Bool, true, false}
 use Prim.Native.Nat.{ℕ}
 use native.Mathlib.Omega.{arith}
+use Rattle.std.specs.Prelude.{Err}
 use Rattle.lists.proofs.Cond.{if-true, either}
 use Rattle.reply.specs.declared.Reply.{Reply}
 use Rattle.reply.specs.declared.Reply.TheVariants.{Done, NotLawful}
@@ -10,7 +11,7 @@ use Rattle.state.specs.declared.State.{State}
 use Rattle.state.specs.declared.Answer.{Answer}
 use Rattle.state.specs.Answer.{refused}
 use Rattle.state.specs.Lawful.{lawful_state}
-use Rattle.register_answers.specs.Answers.{if_fits, unread, write_lawful}
+use Rattle.register_answers.specs.Answers.{if_fits, write_lawful}
 use Rattle.register_answers.specs.Rows.{write_by, read_by}
 use Rattle.register_ports.specs.Ports.{port_writes, port_reads}
 use Rattle.register_tables.specs.Tables.{register_writes, register_reads}
@@ -26,11 +27,11 @@ port-row s n v h = if-true (lawful_state s) (write_by port_writes s n v) (refuse
 
 pub read-row : (s : State) (n : ℕ) → lawful_state s ≡ true → read_register s n ≡ read_by register_reads s n
 unfolding read_register
-read-row s n h = if-true (lawful_state s) (read_by register_reads s n) (unread NotLawful) h
+read-row s n h = if-true (lawful_state s) (read_by register_reads s n) (Err NotLawful) h
 
 pub read-port-row : (s : State) (n : ℕ) → lawful_state s ≡ true → read_port s n ≡ read_by port_reads s n
 unfolding read_port
-read-port-row s n h = if-true (lawful_state s) (read_by port_reads s n) (unread NotLawful) h
+read-port-row s n h = if-true (lawful_state s) (read_by port_reads s n) (Err NotLawful) h
 
 not_done : {A : Type 0} (r : Reply) → r ≡ NotLawful → r ≡ Done → A
 not_done r e h = let z : ◌≡◌ {A = ℕ} 0 1 = cc in absurd (omega arith)

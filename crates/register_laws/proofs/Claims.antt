@@ -8,6 +8,7 @@ use lib.ListN.{length, get_or}
 use lib.Seq.{get_or-set_same}
 use lib.Dec.{leb}
 use borrow.Author.Tests.{le-leb, lt-leb, leb-true, lt-ltb, le-ltb}
+use Rattle.std.specs.Prelude.{Ok, Err}
 use Rattle.lists.proofs.Cond.{if-true, if-false, either}
 use Rattle.reply.specs.declared.Reply.TheVariants.{Done, NotLawful, NoRegister, OutOfBounds}
 use Rattle.reply.proofs.NotFour.{NotFour, other, same-not-four, done-not-four}
@@ -20,15 +21,16 @@ use Rattle.state.specs.Lawful.{lawful_state}
 use Rattle.state.specs.Typed.{Typed}
 use Rattle.state.specs.Groups.{palette_with_half, turns_with_ula, turns_with_tiles}
 use Rattle.state.specs.With.{with_palette, with_turns}
-use Rattle.register_answers.specs.Answers.{if_fits, given, write_lawful}
+use Rattle.register_answers.specs.Answers.{Reading, if_fits, write_lawful}
+use Rattle.reply.specs.Answered.{reply_of}
 use Rattle.register_answers.specs.Rows.{WriteRow, write_by, read_by}
+use Rattle.register_answers.proofs.Told.{Told}
 use Rattle.register_clips.specs.Clips.{ula_clip_written, tile_clip_written, restarted}
 use Rattle.register_colours.specs.Colours.{palette_at, palette_choice, colour_at}
 use Rattle.register_palettes.specs.Palettes.{index_written, eight_written, control_written}
 use Rattle.register_ports.specs.Ports.{mode_group, plus_written, plus_read, port_writes, port_reads}
 use Rattle.register_tables.specs.Tables.{register_writes, register_reads}
 use Rattle.registers.specs.Registers.{write_register, write_port, read_register, read_port}
-use Rattle.register_answers.specs.declared.Reading.{Reading}
 use Rattle.register_laws.specs.Claims.{Each, none, ◌▷◌, NoneOf, LawfulStays, RefusedSame, NeverFour, Takes, ReadsBack, PortsTake, PortsReadBack, EightOnce, NineOnce, NineTwice, NineRefused, HalfDropped, HalfKept, four_writes, ClipsTake, FourClipWrites, TurnsRestarted, ClipReads, TurnsReads, ColourReads, ModeReads, WriteOnly, port_numbers, OthersMissing}
 use Rattle.state.proofs.Colours.{colour-at}
 use Rattle.register_laws.proofs.Parts.{Parts, join, split, apart, palette-lawful}
@@ -70,21 +72,40 @@ pub refused_same : RefusedSame
 unfolding RefusedSame write_register write_port
 refused_same = (hands-back register_writes registers-sound, hands-back port_writes ports-sound)
 
--- a read that gives a byte, or is refused as no register
-abbrev ReadNotFour : Reading → Type 0
-ReadNotFour r = NotFour r.reply
+-- a read that is not refused by 4, and is told by its reply and its value: it gives a byte, or is refused as no register
+record Clear (a : Reading) : Type 0 where
+  not-four : NotFour (reply_of a)
+  told : Told a
 
-gives : NotFour Done
-gives = done-not-four
+gives : {v : ℕ} → Clear (Ok v)
+gives = record { not-four = done-not-four; told = refl }
 
-register-reads-give : (s : State) → Each (λ r. ReadNotFour (r.reading s)) register_reads
+missing : Clear (Err NoRegister)
+missing = record { not-four = no_register; told = refl }
+
+register-reads-give : (s : State) → Each (λ r. Clear (r.reading s)) register_reads
 register-reads-give s =
     gives ▷ gives ▷ gives ▷ gives ▷ gives ▷ gives ▷ gives ▷ gives ▷ gives ▷ gives ▷ gives ▷ gives ▷ gives
     ▷ gives ▷ gives ▷ gives ▷ gives ▷ gives ▷ gives ▷ gives ▷ gives ▷ gives ▷ gives ▷ gives ▷ gives ▷ none
 
-port-reads-give : (s : State) → Each (λ r. ReadNotFour (r.reading s)) port_reads
+port-reads-give : (s : State) → Each (λ r. Clear (r.reading s)) port_reads
 port-reads-give s =
-    either ReadNotFour (timex_on s.ula) _ _ gives no_register ▷ either ReadNotFour (mode_group s) _ _ gives gives ▷ none
+    either Clear (timex_on s.ula) _ _ gives missing ▷ either Clear (mode_group s) _ _ gives gives ▷ none
+
+register-clear : (s : State) (n : ℕ) → Clear (read_by register_reads s n)
+register-clear s n = by-reads Clear register_reads s n missing (register-reads-give s)
+
+port-clear : (s : State) (n : ℕ) → Clear (read_by port_reads s n)
+port-clear s n = by-reads Clear port_reads s n missing (port-reads-give s)
+
+-- and so is a read of any state
+pub register-told : (s : State) (n : ℕ) → Told (read_register s n)
+unfolding read_register
+register-told s n = either Told (lawful_state s) (read_by register_reads s n) (Err NotLawful) (register-clear s n).told refl
+
+pub port-told : (s : State) (n : ℕ) → Told (read_port s n)
+unfolding read_port
+port-told s n = either Told (lawful_state s) (read_by port_reads s n) (Err NotLawful) (port-clear s n).told refl
 
 pub register-not-four : (s : State) (n v : ℕ) → NotFour (write_by register_writes s n v).reply
 register-not-four = not-four register_writes registers-sound
@@ -96,15 +117,15 @@ pub never_four : NeverFour
 never_four = record {
   registers = λ s n v h. same-not-four _ _ (ap (λ (x : Answer). x.reply) (write-row s n v h)) (register-not-four s n v);
   ports = λ s n v h. same-not-four _ _ (ap (λ (x : Answer). x.reply) (port-row s n v h)) (port-not-four s n v);
-  register-reads = λ s n h. same-not-four _ _ (ap (λ (x : Reading). x.reply) (read-row s n h)) (by-reads ReadNotFour register_reads s n no_register (register-reads-give s));
-  port-reads = λ s n h. same-not-four _ _ (ap (λ (x : Reading). x.reply) (read-port-row s n h)) (by-reads ReadNotFour port_reads s n no_register (port-reads-give s));
+  register-reads = λ s n h e. (register-clear s n).not-four (ap reply_of (sym (read-row s n h) ∙ e));
+  port-reads = λ s n h e. (port-clear s n).not-four (ap reply_of (sym (read-port-row s n h) ∙ e));
 }
 
 -- ---- reading back
 
 module _ (s : State) (v : ℕ) (b : v < 256) (z : Typed s) (h : lawful_state s ≡ true) where
   -- a row that goes by ok, and whose changed state t reads as k
-  takes : (n k : ℕ) (ok : Bool) (t : State) → write_by register_writes s n v ≡ if_fits ok t s → read_by register_reads t n ≡ given k → Takes s n v ok k
+  takes : (n k : ℕ) (ok : Bool) (t : State) → write_by register_writes s n v ≡ if_fits ok t s → read_by register_reads t n ≡ Ok k → Takes s n v ok k
   unfolding LawfulStays
   takes n k ok t e g =
       let w : write_register s n v ≡ if_fits ok t s = write-row s n v h ∙ e in
@@ -165,7 +186,7 @@ clip_reads s h =
     let g = (apart s h).0 in
     let u : s.turns.ula % 4 ≡ s.turns.ula = omega (arith, leb-true s.turns.ula 3 (ula-turn s.turns g.turns)) in
     let t : s.turns.tiles % 4 ≡ s.turns.tiles = omega (arith, leb-true s.turns.tiles 3 (tile-turn s.turns g.turns)) in
-    (read-row s 0x1A h ∙ ap (λ (i : ℕ). given (get_or s.ulaclip i 0)) u, read-row s 0x1B h ∙ ap (λ (i : ℕ). given (get_or s.tileclip i 0)) t)
+    (read-row s 0x1A h ∙ ap (λ (i : ℕ). Ok (get_or s.ulaclip i 0)) u, read-row s 0x1B h ∙ ap (λ (i : ℕ). Ok (get_or s.tileclip i 0)) t)
 
 pub turns_reads : TurnsReads
 unfolding TurnsReads
@@ -173,14 +194,14 @@ turns_reads s h =
     let g = (apart s h).0 in
     let e : s.turns.tiles % 4 * 64 + s.turns.ula % 4 ≡ s.turns.tiles * 64 + s.turns.ula =
     omega (arith, leb-true s.turns.ula 3 (ula-turn s.turns g.turns), leb-true s.turns.tiles 3 (tile-turn s.turns g.turns)) in
-    read-row s 0x1C h ∙ ap given e
+    read-row s 0x1C h ∙ ap Ok e
 
 pub colour_reads : ColourReads
 unfolding ColourReads
 colour_reads s h =
     let l : colour_at s ≤ 511 = colour-at (palette_at (palette_choice s) s) s.palette.index (palette-lawful (palette_choice s) s (apart s h).1) in
     let e : colour_at s / 2 % 256 ≡ colour_at s / 2 = omega arith in
-    (read-row s 0x41 h ∙ ap given e, read-row s 0x44 h)
+    (read-row s 0x41 h ∙ ap Ok e, read-row s 0x44 h)
 
 pub mode_reads : ModeReads
 unfolding ModeReads
@@ -190,19 +211,19 @@ pub write_only : WriteOnly
 unfolding WriteOnly
 write_only s h = (read-port-row s 0x00FE h, read-port-row s 0xBF3B h, λ e. read-port-row s 0x00FF h ∙ if-false (timex_on s.ula) _ _ e)
 
-register-back : (s : State) (v : ℕ) → s.ports.select < 64 → length s.plus ≡ 64 → plus_read (plus_written s v).state ≡ given v
+register-back : (s : State) (v : ℕ) → s.ports.select < 64 → length s.plus ≡ 64 → plus_read (plus_written s v).state ≡ Ok v
 register-back s v l k =
     let m : mode_group s ≡ false = lt-leb 64 s.ports.select l in
     ap (λ (a : Answer). plus_read a.state) (if-false (mode_group s) _ _ m)
     ∙ if-false (mode_group s) _ _ m
-    ∙ ap given (get_or-set_same s.plus s.ports.select v 0 (omega arith))
+    ∙ ap Ok (get_or-set_same s.plus s.ports.select v 0 (omega arith))
 
-mode-back : (s : State) (v : ℕ) → 64 ≤ s.ports.select → plus_read (plus_written s v).state ≡ given (v % 2)
+mode-back : (s : State) (v : ℕ) → 64 ≤ s.ports.select → plus_read (plus_written s v).state ≡ Ok (v % 2)
 mode-back s v l =
     let m : mode_group s ≡ true = le-leb 64 s.ports.select l in
     ap (λ (a : Answer). plus_read a.state) (if-true (mode_group s) _ _ m)
     ∙ if-true (mode_group s) _ _ m
-    ∙ ap given (bit-of (v % 2) (omega arith))
+    ∙ ap Ok (bit-of (v % 2) (omega arith))
 
 pub ports_read_back : PortsReadBack
 unfolding PortsReadBack LawfulStays

@@ -5,14 +5,14 @@ use mathlib.Core.Bool.{Bool, true, false, cond}
 use Prim.Native.Nat.{ℕ, ◌<◌}
 use lib.Dec.{eqb}
 use borrow.Author.Tests.{eqb-true, ne_eqb}
+use Rattle.std.specs.Prelude.{Err}
 use Rattle.lists.proofs.Cond.{if-false, either}
 use Rattle.reply.specs.declared.Reply.TheVariants.{Done, NoRegister, OutOfBounds}
 use Rattle.reply.proofs.NotFour.{NotFour, other, done-not-four}
 use Rattle.state.specs.declared.State.{State}
 use Rattle.state.specs.declared.Answer.{Answer}
 use Rattle.state.specs.Answer.{done, refused}
-use Rattle.register_answers.specs.declared.Reading.{Reading}
-use Rattle.register_answers.specs.Answers.{if_fits, unread}
+use Rattle.register_answers.specs.Answers.{Reading, if_fits}
 use Rattle.register_answers.specs.Rows.{WriteRow, write_by, ReadRow, read_by}
 use Rattle.register_laws.specs.Claims.{Each, none, ◌▷◌, NoneOf}
 use Rattle.register_laws.proofs.Parts.{Parts, Group}
@@ -84,7 +84,7 @@ by_rows P [] s n v p h none = p
 by_rows P (r ∷ rs) s n v p h (k ▷ ks) = either P (eqb n r.number) (r.effect s v) (write_by rs s n v) (h r.effect k) (by_rows P rs s n v p h ks)
 
 -- what holds where no row has the number, and of each row, holds of a read
-pub by-reads : (P : Reading → Type 0) (rs : List ReadRow) (s : State) (n : ℕ) → P (unread NoRegister) → Each (λ r. P (r.reading s)) rs → P (read_by rs s n)
+pub by-reads : (P : Reading → Type 0) (rs : List ReadRow) (s : State) (n : ℕ) → P (Err NoRegister) → Each (λ r. P (r.reading s)) rs → P (read_by rs s n)
 by-reads P [] s n p none = p
 by-reads P (r ∷ rs) s n p (k ▷ ks) = either P (eqb n r.number) (r.reading s) (read_by rs s n) k (by-reads P rs s n p ks)
 
@@ -102,6 +102,6 @@ pub no-write-row : (rs : List WriteRow) (s : State) (n v : ℕ) → NoneOf (writ
 no-write-row [] s n v none = refl
 no-write-row (r ∷ rs) s n v (x ▷ xs) = if-false (eqb n r.number) _ _ (ne_eqb n r.number x) ∙ no-write-row rs s n v xs
 
-pub no-read-row : (rs : List ReadRow) (s : State) (n : ℕ) → NoneOf (read_numbers rs) n → read_by rs s n ≡ unread NoRegister
+pub no-read-row : (rs : List ReadRow) (s : State) (n : ℕ) → NoneOf (read_numbers rs) n → read_by rs s n ≡ Err NoRegister
 no-read-row [] s n none = refl
 no-read-row (r ∷ rs) s n (x ▷ xs) = if-false (eqb n r.number) _ _ (ne_eqb n r.number x) ∙ no-read-row rs s n xs

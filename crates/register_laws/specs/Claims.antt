@@ -1,6 +1,6 @@
 -- Rules 3.7 to 3.17 and 3.24 to 3.29, with the replies of 10.2 and 10.3: what writes and reads do together. A statement here is
 -- proved by the law of its name in proofs/Claims.antt.
-use Rattle.std.specs.Prelude.{ℕ, ◌+◌, ◌*◌, ◌/◌, ◌%◌, ◌≤◌, ◌<◌, ◌≡◌, List, [], ◌∷◌, Bool, true, false, cond, get_or, set}
+use Rattle.std.specs.Prelude.{ℕ, ◌+◌, ◌*◌, ◌/◌, ◌%◌, ◌≤◌, ◌<◌, ◌≡◌, List, [], ◌∷◌, Bool, true, false, cond, get_or, set, Ok, Err}
 use Rattle.reply.specs.declared.Reply.TheVariants.{Done, NotLawful, NoRegister, OutOfBounds}
 use Rattle.register_bounds.specs.Bounds.{offset_yfits, is_mask, is_choice, tile_transparent_fits, ula_control_fits, tile_control_fits, x_high_fits}
 use Rattle.state.specs.declared.State.{State}
@@ -12,7 +12,6 @@ use Rattle.state.specs.Typed.{Typed}
 use Rattle.state.specs.Groups.{palette_with_index, palette_with_half, palette_without_half, ports_with_border, ports_with_timex, ports_with_select}
 use Rattle.state.specs.With.{with_palette, with_ports}
 use Rattle.colour.specs.Bytes.{widened}
-use Rattle.register_answers.specs.Answers.{given, unread}
 use Rattle.register_colours.specs.Colours.{palette_at, with_palette_at, palette_choice, next_index}
 use Rattle.registers.specs.Registers.{write_register, write_port, read_register, read_port}
 
@@ -50,8 +49,8 @@ RefusedSame = HandsBack write_register × HandsBack write_port
 pub record NeverFour : Type 0 where
   pub registers : (s : State) (n v : ℕ) → lawful_state s ≡ true → (write_register s n v).reply ≡ NotLawful → ⊥
   pub ports : (s : State) (n v : ℕ) → lawful_state s ≡ true → (write_port s n v).reply ≡ NotLawful → ⊥
-  pub register-reads : (s : State) (n : ℕ) → lawful_state s ≡ true → (read_register s n).reply ≡ NotLawful → ⊥
-  pub port-reads : (s : State) (n : ℕ) → lawful_state s ≡ true → (read_port s n).reply ≡ NotLawful → ⊥
+  pub register-reads : (s : State) (n : ℕ) → lawful_state s ≡ true → read_register s n ≡ Err NotLawful → ⊥
+  pub port-reads : (s : State) (n : ℕ) → lawful_state s ≡ true → read_port s n ≡ Err NotLawful → ⊥
 
 -- ---- reading back
 
@@ -103,7 +102,7 @@ stored_registers =
 
 -- a byte v written to register n of s: where it fits, the write is done and reads back as k; where not, it is 10 and the state is as it was
 pub record Takes (s : State) (n v : ℕ) (fits : Bool) (k : ℕ) : Type 0 where
-  pub inside : fits ≡ true → ((write_register s n v).reply ≡ Done) × (read_register (write_register s n v).state n ≡ given k)
+  pub inside : fits ≡ true → ((write_register s n v).reply ≡ Done) × (read_register (write_register s n v).state n ≡ Ok k)
   pub outside : fits ≡ false → write_register s n v ≡ refused OutOfBounds s
 
 -- each stored register takes just the bytes in its bounds, and gives back what it keeps of them
@@ -126,9 +125,9 @@ PortsTake = (s : State) (v : ℕ) → lawful_state s ≡ true → PortTakes s v
 unfoldable pub PortsReadBack : Type 0
 PortsReadBack =
     (s : State) (v : ℕ) → v < 256 → Typed s → lawful_state s ≡ true
-    → (timex_on s.ula ≡ true → read_port (write_port s 0x00FF v).state 0x00FF ≡ given v)
-    × (s.ports.select < 64 → read_port (write_port s 0xFF3B v).state 0xFF3B ≡ given v)
-    × (64 ≤ s.ports.select → read_port (write_port s 0xFF3B v).state 0xFF3B ≡ given (v % 2))
+    → (timex_on s.ula ≡ true → read_port (write_port s 0x00FF v).state 0x00FF ≡ Ok v)
+    × (s.ports.select < 64 → read_port (write_port s 0xFF3B v).state 0xFF3B ≡ Ok v)
+    × (64 ≤ s.ports.select → read_port (write_port s 0xFF3B v).state 0xFF3B ≡ Ok (v % 2))
 
 -- ---- colours, and the held half
 
@@ -220,30 +219,30 @@ TurnsRestarted = (s : State) (v : ℕ) → lawful_state s ≡ true → Restarts 
 unfoldable pub ClipReads : Type 0
 ClipReads =
     (s : State) → lawful_state s ≡ true
-    → (read_register s 0x1A ≡ given (get_or s.ulaclip s.turns.ula 0)) × (read_register s 0x1B ≡ given (get_or s.tileclip s.turns.tiles 0))
+    → (read_register s 0x1A ≡ Ok (get_or s.ulaclip s.turns.ula 0)) × (read_register s 0x1B ≡ Ok (get_or s.tileclip s.turns.tiles 0))
 
 -- $1C reads as tilemap turn × 64 + ULA turn
 unfoldable pub TurnsReads : Type 0
-TurnsReads = (s : State) → lawful_state s ≡ true → read_register s 0x1C ≡ given (s.turns.tiles * 64 + s.turns.ula)
+TurnsReads = (s : State) → lawful_state s ≡ true → read_register s 0x1C ≡ Ok (s.turns.tiles * 64 + s.turns.ula)
 
 -- $41 reads colour div 2, $44 colour mod 2, of the palette written at the index
 unfoldable pub ColourReads : Type 0
 ColourReads =
     (s : State) → lawful_state s ≡ true
-    → (read_register s 0x41 ≡ given (get_or (palette_at (palette_choice s) s) s.palette.index 0 / 2))
-    × (read_register s 0x44 ≡ given (get_or (palette_at (palette_choice s) s) s.palette.index 0 % 2))
+    → (read_register s 0x41 ≡ Ok (get_or (palette_at (palette_choice s) s) s.palette.index 0 / 2))
+    × (read_register s 0x44 ≡ Ok (get_or (palette_at (palette_choice s) s) s.palette.index 0 % 2))
 
 -- $FF3B in the mode group reads 1 or 0, as ULAplus is on or not
 unfoldable pub ModeReads : Type 0
-ModeReads = (s : State) → lawful_state s ≡ true → 64 ≤ s.ports.select → read_port s 0xFF3B ≡ given (cond s.ports.plus 1 0)
+ModeReads = (s : State) → lawful_state s ≡ true → 64 ≤ s.ports.select → read_port s 0xFF3B ≡ Ok (cond s.ports.plus 1 0)
 
 -- $FE and $BF3B cannot be read, nor $FF without $08 bit 2
 unfoldable pub WriteOnly : Type 0
 WriteOnly =
     (s : State) → lawful_state s ≡ true
-    → (read_port s 0x00FE ≡ unread NoRegister)
-    × (read_port s 0xBF3B ≡ unread NoRegister)
-    × (timex_on s.ula ≡ false → read_port s 0x00FF ≡ unread NoRegister)
+    → (read_port s 0x00FE ≡ Err NoRegister)
+    × (read_port s 0xBF3B ≡ Err NoRegister)
+    × (timex_on s.ula ≡ false → read_port s 0x00FF ≡ Err NoRegister)
 
 -- ---- every other number
 
@@ -254,10 +253,10 @@ register_numbers =
 abbrev pub port_numbers : List ℕ
 port_numbers = 0x00FE ∷ 0x00FF ∷ 0xBF3B ∷ 0xFF3B ∷ []
 
--- a number that is none of these is 9: a write leaves the state, and a read gives 0
+-- a number that is none of these is 9: a write leaves the state, and a read gives no byte
 pub record NoOther (s : State) (n v : ℕ) : Type 0 where
-  pub register : NoneOf register_numbers n → (write_register s n v ≡ refused NoRegister s) × (read_register s n ≡ unread NoRegister)
-  pub port : NoneOf port_numbers n → (write_port s n v ≡ refused NoRegister s) × (read_port s n ≡ unread NoRegister)
+  pub register : NoneOf register_numbers n → (write_register s n v ≡ refused NoRegister s) × (read_register s n ≡ Err NoRegister)
+  pub port : NoneOf port_numbers n → (write_port s n v ≡ refused NoRegister s) × (read_port s n ≡ Err NoRegister)
 
 unfoldable pub OthersMissing : Type 0
 OthersMissing = (s : State) (n v : ℕ) → lawful_state s ≡ true → NoOther s n v

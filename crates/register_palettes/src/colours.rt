@@ -6,10 +6,9 @@ ghost use Rattle.register_colours.specs.Colours.{colour_put};
 ghost use Rattle.register_palettes.specs.Palettes.{index_written, eight_written, nine_first, nine_second, nine_written, eight_read, nine_read};
 
 use colour::widen;
-use lists::u16_of;
 use register_answers::{accept_apart, out_of_bounds};
 use register_colours::{chosen_colour, put_colour};
-use register_parts::{Registers, Written};
+use register_parts::{Palettes, Registers, Written};
 use state::State;
 
 // $40
@@ -24,33 +23,19 @@ pub fn write_index(g: Registers, value: u8) -> Written
 }
 
 // A colour stored where the palette registers point, and answered.
-fn write_colour(
-    g: Registers,
-    colour: u16,
-    ulafirst: &mut [u16; 256],
-    ulasecond: &mut [u16; 256],
-    tilefirst: &mut [u16; 256],
-    tilesecond: &mut [u16; 256],
-) -> Written
-    ensures { answer_with result ulafirst.new ulasecond.new tilefirst.new tilesecond.new ≡ done (colour_put (state_with g ulafirst.old ulasecond.old tilefirst.old tilesecond.old) colour) }
+fn write_colour(g: Registers, colour: u16, p: &mut Palettes) -> Written
+    ensures { answer_with result p.new ≡ done (colour_put (state_with g p.old) colour) }
 {
-    let t = put_colour(g, colour, ulafirst, ulasecond, tilefirst, tilesecond);
+    let t = put_colour(g, colour, p);
     accept_apart(t)
 }
 
 // $41
-pub fn write_eight(
-    g: Registers,
-    value: u8,
-    ulafirst: &mut [u16; 256],
-    ulasecond: &mut [u16; 256],
-    tilefirst: &mut [u16; 256],
-    tilesecond: &mut [u16; 256],
-) -> Written
-    ensures { answer_with result ulafirst.new ulasecond.new tilefirst.new tilesecond.new ≡ eight_written (state_with g ulafirst.old ulasecond.old tilefirst.old tilesecond.old) value }
+pub fn write_eight(g: Registers, value: u8, p: &mut Palettes) -> Written
+    ensures { answer_with result p.new ≡ eight_written (state_with g p.old) value }
 {
     let colour = widen(value);
-    write_colour(g, colour, ulafirst, ulasecond, tilefirst, tilesecond)
+    write_colour(g, colour, p)
 }
 
 fn nine_first(g: Registers, value: u8) -> Written
@@ -66,41 +51,27 @@ fn nine_first(g: Registers, value: u8) -> Written
 fn nine_bits(half: u8, bit: u8) -> u16
     ensures { result ≡ half * 2 + bit }
 {
-    u16_of(half) * 2 + u16_of(bit)
+    u16::from(half) * 2 + u16::from(bit)
 }
 
-fn nine_second(
-    g: Registers,
-    value: u8,
-    ulafirst: &mut [u16; 256],
-    ulasecond: &mut [u16; 256],
-    tilefirst: &mut [u16; 256],
-    tilesecond: &mut [u16; 256],
-) -> Written
-    ensures { answer_with result ulafirst.new ulasecond.new tilefirst.new tilesecond.new ≡ nine_second (state_with g ulafirst.old ulasecond.old tilefirst.old tilesecond.old) value }
+fn nine_second(g: Registers, value: u8, p: &mut Palettes) -> Written
+    ensures { answer_with result p.new ≡ nine_second (state_with g p.old) value }
 {
     if value <= 1 {
         let colour = nine_bits(g.palette.half, value);
-        write_colour(g, colour, ulafirst, ulasecond, tilefirst, tilesecond)
+        write_colour(g, colour, p)
     } else {
         out_of_bounds(g)
     }
 }
 
 // $44
-pub fn write_nine(
-    g: Registers,
-    value: u8,
-    ulafirst: &mut [u16; 256],
-    ulasecond: &mut [u16; 256],
-    tilefirst: &mut [u16; 256],
-    tilesecond: &mut [u16; 256],
-) -> Written
-    ensures { answer_with result ulafirst.new ulasecond.new tilefirst.new tilesecond.new ≡ nine_written (state_with g ulafirst.old ulasecond.old tilefirst.old tilesecond.old) value }
+pub fn write_nine(g: Registers, value: u8, p: &mut Palettes) -> Written
+    ensures { answer_with result p.new ≡ nine_written (state_with g p.old) value }
 {
     let held = g.palette.held;
     if held {
-        nine_second(g, value, ulafirst, ulasecond, tilefirst, tilesecond)
+        nine_second(g, value, p)
     } else {
         nine_first(g, value)
     }

@@ -3,7 +3,7 @@
 #![tactic(auto)]
 
 ghost use Rattle.std.specs.Prelude.{◌≡◌};
-ghost use Rattle.register_parts.specs.Parts.{registers_of, answer_with};
+ghost use Rattle.register_parts.specs.Parts.{palettes_of, registers_of, answer_with};
 
 use reply::Reply;
 use state::{Answer, Palette, Ports, State, Tiles, Turns, Ula};
@@ -20,6 +20,15 @@ pub struct Registers {
     pub ulaclip: [u8; 4],
     pub tileclip: [u8; 4],
     pub plus: [u8; 64],
+}
+
+// The four palettes of a state: those of the ULA, first and second, and those of the tilemap.
+#[derive(Clone, Copy)]
+pub struct Palettes {
+    pub ulafirst: [u16; 256],
+    pub ulasecond: [u16; 256],
+    pub tilefirst: [u16; 256],
+    pub tilesecond: [u16; 256],
 }
 
 // What a write to the parts of a state answers: its reply and the registers afterwards.
@@ -53,29 +62,54 @@ pub fn registers_of(s: State) -> Registers
     }
 }
 
-// The answer on a whole state: the registers written, and the palettes of s.
-pub fn answer_on(w: Written, s: State) -> Answer
-    ensures { result ≡ answer_with w s.ulafirst s.ulasecond s.tilefirst s.tilesecond }
+pub fn palettes_of(s: State) -> Palettes
+    ensures { result ≡ palettes_of s }
 {
-    let reply = w.reply;
+    let ulafirst = s.ulafirst;
+    let ulasecond = s.ulasecond;
+    let tilefirst = s.tilefirst;
+    let tilesecond = s.tilesecond;
+    Palettes {
+        ulafirst,
+        ulasecond,
+        tilefirst,
+        tilesecond,
+    }
+}
+
+// Puts the parts of a state together again, and answers with it.
+pub fn answer_with(w: Written, p: Palettes) -> Answer
+    ensures { result ≡ answer_with w p }
+{
     let ula = w.registers.ula;
     let tiles = w.registers.tiles;
     let palette = w.registers.palette;
     let turns = w.registers.turns;
     let ports = w.registers.ports;
-    let frame = w.registers.frame;
     let ulaclip = w.registers.ulaclip;
     let tileclip = w.registers.tileclip;
     let plus = w.registers.plus;
-    let mut t = s;
-    t.ula = ula;
-    t.tiles = tiles;
-    t.palette = palette;
-    t.turns = turns;
-    t.ports = ports;
-    t.frame = frame;
-    t.ulaclip = ulaclip;
-    t.tileclip = tileclip;
-    t.plus = plus;
-    Answer { reply, state: t }
+    let ulafirst = p.ulafirst;
+    let ulasecond = p.ulasecond;
+    let tilefirst = p.tilefirst;
+    let tilesecond = p.tilesecond;
+    let state = State {
+        ula,
+        tiles,
+        palette,
+        turns,
+        ports,
+        frame: w.registers.frame,
+        ulaclip,
+        tileclip,
+        plus,
+        ulafirst,
+        ulasecond,
+        tilefirst,
+        tilesecond,
+    };
+    Answer {
+        reply: w.reply,
+        state,
+    }
 }

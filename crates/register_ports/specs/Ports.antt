@@ -1,5 +1,5 @@
 -- Rules 3.25 to 3.28 and 9.9: the four ports.
-use Rattle.std.specs.Prelude.{ℕ, ◌%◌, List, [], ◌∷◌, Bool, cond, get_or, set, leb, eqb}
+use Rattle.std.specs.Prelude.{ℕ, ◌%◌, List, [], ◌∷◌, Bool, cond, get_or, set, leb, eqb, Ok, Err}
 use Rattle.reply.specs.declared.Reply.TheVariants.{NoRegister}
 use Rattle.state.specs.declared.State.{State}
 use Rattle.state.specs.declared.Answer.{Answer}
@@ -8,8 +8,7 @@ use Rattle.state_bits.specs.Bits.{timex_on}
 use Rattle.register_bounds.specs.Bounds.{select_fits}
 use Rattle.state.specs.Groups.{ports_with_border, ports_with_timex, ports_with_select, ports_with_plus}
 use Rattle.state.specs.With.{with_ports, with_plus}
-use Rattle.register_answers.specs.declared.Reading.{Reading}
-use Rattle.register_answers.specs.Answers.{if_fits, given, unread}
+use Rattle.register_answers.specs.Answers.{Reading, if_fits}
 use Rattle.register_answers.specs.Rows.{WriteRow, writes, ReadRow, reads}
 
 -- $FE: the low three bits are the border
@@ -38,11 +37,11 @@ plus_written s v = cond (mode_group s) (mode_written s v) (done (with_plus s (se
 
 -- $FF: readable while $08 bit 2 is set
 abbrev pub timex_read : State → Reading
-timex_read s = cond (timex_on s.ula) (given s.ports.timex) (unread NoRegister)
+timex_read s = cond (timex_on s.ula) (Ok s.ports.timex) (Err NoRegister)
 
 -- $FF3B: a ULAplus register, or ULAplus on; other mode bits read as 0
 abbrev pub plus_read : State → Reading
-plus_read s = cond (mode_group s) (given (cond s.ports.plus 1 0)) (given (get_or s.plus s.ports.select 0))
+plus_read s = cond (mode_group s) (Ok (cond s.ports.plus 1 0)) (Ok (get_or s.plus s.ports.select 0))
 
 abbrev pub port_writes : List WriteRow
 port_writes =

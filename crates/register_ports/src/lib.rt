@@ -6,9 +6,10 @@ ghost use Rattle.register_answers.specs.Rows.{write_by, read_by};
 ghost use Rattle.register_parts.specs.Parts.{bare, written_of};
 ghost use Rattle.register_ports.specs.Ports.{border_written, timex_written, select_written, mode_written, plus_written, timex_read, plus_read, port_writes, port_reads};
 
-use register_answers::{Reading, accept_apart, give, if_fits, no_read, no_write};
+use register_answers::{accept_apart, if_fits, no_read, no_write};
 use register_bounds::select_fits;
-use register_parts::{Registers, Written, answer_on, registers_of};
+use register_parts::{Registers, Written, answer_with, palettes_of, registers_of};
+use reply::Reply;
 use state::{Answer, State};
 use state_bits::timex_on;
 
@@ -67,27 +68,27 @@ fn write_plus(g: Registers, value: u8) -> Written
 }
 
 // $FF
-fn read_timex(s: State) -> Reading
+fn read_timex(s: State) -> Result<u8, Reply>
     ensures { result ≡ timex_read s }
 {
     if timex_on(s.ula) {
-        give(s.ports.timex)
+        Ok(s.ports.timex)
     } else {
         no_read()
     }
 }
 
 // $FF3B
-fn read_plus(s: State) -> Reading
+fn read_plus(s: State) -> Result<u8, Reply>
     ensures { result ≡ plus_read s }
 {
     let select = s.ports.select;
     if 64 <= select {
         let on = s.ports.plus;
-        give(on as u8)
+        Ok(on as u8)
     } else {
         let i = select as usize;
-        give(s.plus[i])
+        Ok(s.plus[i])
     }
 }
 
@@ -105,16 +106,17 @@ pub fn write_port_apart(g: Registers, port: u16, value: u8) -> Written
 }
 
 // The same on a whole state.
+#[tactic(auto, using(crate::proofs::Apart::ports_apart))]
 pub fn write_at(s: State, port: u16, value: u8) -> Answer
     ensures { result ≡ write_by port_writes s port value }
 {
     let g = registers_of(s);
     let w = write_port_apart(g, port, value);
-    answer_on(w, s)
+    answer_with(w, palettes_of(s))
 }
 
 // $FE and $BF3B are write only.
-pub fn read_at(s: State, port: u16) -> Reading
+pub fn read_at(s: State, port: u16) -> Result<u8, Reply>
     ensures { result ≡ read_by port_reads s port }
 {
     match port {

@@ -1,6 +1,5 @@
 -- No register but $41 and $44 touches a palette: a write to a whole state is the write to its registers, row by row.
 use mathlib.Core.Path.{◌≡◌, refl, sym, ap, ◌∙◌}
-use mathlib.Core.List.{List}
 use mathlib.Core.Bool.{Bool, false}
 use Prim.Native.Nat.{ℕ, ◌/◌, ◌%◌}
 use lib.Dec.{leb, eqb}
@@ -12,6 +11,7 @@ use Rattle.state.specs.Answer.{done, refused}
 use Rattle.state.specs.Groups.{ula_with_transparent, ula_with_layers, ula_with_peripheral, ula_with_fallback, ula_with_control, ula_with_x, ula_with_y, ula_with_lores_x, ula_with_lores_y, tiles_with_transparent, tiles_with_control, tiles_with_attribute, tiles_with_xhigh, tiles_with_xlow, tiles_with_y, tiles_with_map, tiles_with_definitions, palette_with_control, palette_with_index, palette_with_mask, palette_without_half, turns_with_ula, turns_with_tiles}
 use Rattle.state.specs.With.{with_ula, with_tiles, with_palette, with_turns}
 use Rattle.register_bounds.specs.Bounds.{offset_yfits, tile_transparent_fits, ula_control_fits, tile_control_fits, x_high_fits, is_mask, is_choice}
+use Rattle.register_parts.specs.declared.Palettes.{Palettes}
 use Rattle.register_parts.specs.declared.Registers.{Registers}
 use Rattle.register_parts.specs.declared.Written.{Written}
 use Rattle.register_parts.specs.Parts.{state_with, bare, written_of, answer_with}
@@ -24,43 +24,43 @@ use Rattle.register_tables.specs.Tables.{register_writes}
 -- ---- effects on one group, always or where the value fits
 
 ula : (f : Ula → ℕ → Ula) → Apart (λ s v. done (with_ula s (f s.ula v)))
-ula f = record { apart = λ g a b c d v. refl }
+ula f = record { apart = λ g pal v. refl }
 
 tiles : (f : Tiles → ℕ → Tiles) → Apart (λ s v. done (with_tiles s (f s.tiles v)))
-tiles f = record { apart = λ g a b c d v. refl }
+tiles f = record { apart = λ g pal v. refl }
 
 palette : (f : Palette → ℕ → Palette) → Apart (λ s v. done (with_palette s (f s.palette v)))
-palette f = record { apart = λ g a b c d v. refl }
+palette f = record { apart = λ g pal v. refl }
 
 ula-if : (fits : ℕ → Bool) (f : Ula → ℕ → Ula) → Apart (λ s v. if_fits (fits v) (with_ula s (f s.ula v)) s)
-ula-if fits f = record { apart = λ g a b c d v. judged a b c d (fits v) (with_ula (bare g) (f g.ula v)) (bare g) }
+ula-if fits f = record { apart = λ g pal v. judged pal (fits v) (with_ula (bare g) (f g.ula v)) (bare g) }
 
 tiles-if : (fits : ℕ → Bool) (f : Tiles → ℕ → Tiles) → Apart (λ s v. if_fits (fits v) (with_tiles s (f s.tiles v)) s)
-tiles-if fits f = record { apart = λ g a b c d v. judged a b c d (fits v) (with_tiles (bare g) (f g.tiles v)) (bare g) }
+tiles-if fits f = record { apart = λ g pal v. judged pal (fits v) (with_tiles (bare g) (f g.tiles v)) (bare g) }
 
 palette-if : (fits : ℕ → Bool) (f : Palette → ℕ → Palette) → Apart (λ s v. if_fits (fits v) (with_palette s (f s.palette v)) s)
-palette-if fits f = record { apart = λ g a b c d v. judged a b c d (fits v) (with_palette (bare g) (f g.palette v)) (bare g) }
+palette-if fits f = record { apart = λ g pal v. judged pal (fits v) (with_palette (bare g) (f g.palette v)) (bare g) }
 
 -- ---- the clips and their turns
 
 ula-clip : Apart ula_clip_written
-ula-clip = record { apart = λ g a b c d v. refl }
+ula-clip = record { apart = λ g pal v. refl }
 
 tile-clip : Apart tile_clip_written
-tile-clip = record { apart = λ g a b c d v. refl }
+tile-clip = record { apart = λ g pal v. refl }
 
 turns : Apart turns_written
 turns = record {
-  apart = λ g a b c d v.
-      judged a b c d (leb v 15) (with_turns (bare g) (turns_with_tiles (turns_with_ula g.turns (restarted (v / 4 % 2) g.turns.ula)) (restarted (v / 8 % 2) g.turns.tiles))) (bare g);
+  apart = λ g pal v.
+      judged pal (leb v 15) (with_turns (bare g) (turns_with_tiles (turns_with_ula g.turns (restarted (v / 4 % 2) g.turns.ula)) (restarted (v / 8 % 2) g.turns.tiles))) (bare g);
 }
 
 -- ---- the table
 
-pub registers-apart : (g : Registers) (a b c d : List ℕ) (n v : ℕ) → eqb n 0x41 ≡ false → eqb n 0x44 ≡ false
-    → write_by register_writes (state_with g a b c d) n v ≡ answer_with (written_of (write_by register_writes (bare g) n v)) a b c d
-registers-apart g a b c d n v eight nine =
-    rows_apart a b c d n register_writes
+pub registers-apart : (g : Registers) (pal : Palettes) (n v : ℕ) → eqb n 0x41 ≡ false → eqb n 0x44 ≡ false
+    → write_by register_writes (state_with g pal) n v ≡ answer_with (written_of (write_by register_writes (bare g) n v)) pal
+registers-apart g pal n v eight nine =
+    rows_apart pal n register_writes
     (ula ula_with_peripheral
     ▷ ula ula_with_transparent
     ▷ ula ula_with_layers
@@ -90,13 +90,13 @@ registers-apart g a b c d n v eight nine =
     g v
 
 -- an arm of the match on numbers: a register that stores no colour
-pub bare-arm : (g : Registers) (a b c d : List ℕ) (n k v : ℕ) (w : Written) → n ≡ k → eqb k 0x41 ≡ false → eqb k 0x44 ≡ false
-    → w ≡ written_of (write_by register_writes (bare g) k v) → answer_with w a b c d ≡ write_by register_writes (state_with g a b c d) n v
-bare-arm g a b c d n k v w e eight nine made =
-    ap (λ (x : Written). answer_with x a b c d) made ∙ sym (registers-apart g a b c d k v eight nine)
-    ∙ ap (λ (m : ℕ). write_by register_writes (state_with g a b c d) m v) (sym e)
+pub bare_arm : (g : Registers) (pal : Palettes) (n k v : ℕ) (w : Written) → n ≡ k → eqb k 0x41 ≡ false → eqb k 0x44 ≡ false
+    → w ≡ written_of (write_by register_writes (bare g) k v) → answer_with w pal ≡ write_by register_writes (state_with g pal) n v
+bare_arm g pal n k v w e eight nine made =
+    ap (λ (x : Written). answer_with x pal) made ∙ sym (registers-apart g pal k v eight nine)
+    ∙ ap (λ (m : ℕ). write_by register_writes (state_with g pal) m v) (sym e)
 
 -- the last arm: a number that there is no register of
-pub no_arm : (g : Registers) (a b c d : List ℕ) (n v : ℕ) (w : Written) → w ≡ written_of (refused NoRegister (bare g))
-    → write_by register_writes (state_with g a b c d) n v ≡ refused NoRegister (state_with g a b c d) → answer_with w a b c d ≡ write_by register_writes (state_with g a b c d) n v
-no_arm g a b c d n v w made missing = ap (λ (x : Written). answer_with x a b c d) made ∙ sym missing
+pub no_arm : (g : Registers) (pal : Palettes) (n v : ℕ) (w : Written) → w ≡ written_of (refused NoRegister (bare g))
+    → write_by register_writes (state_with g pal) n v ≡ refused NoRegister (state_with g pal) → answer_with w pal ≡ write_by register_writes (state_with g pal) n v
+no_arm g pal n v w made missing = ap (λ (x : Written). answer_with x pal) made ∙ sym missing

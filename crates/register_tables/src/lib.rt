@@ -7,22 +7,16 @@ ghost use Rattle.register_parts.specs.Parts.{state_with, answer_with};
 ghost use Rattle.register_answers.specs.Rows.{write_by, read_by};
 ghost use Rattle.register_tables.specs.Tables.{register_writes, register_reads};
 
-use register_answers::{Reading, give, no_read, no_write};
+use register_answers::{no_read, no_write};
 use register_palettes::{write_eight, write_nine};
-use register_parts::{Registers, Written, answer_on, registers_of};
+use register_parts::{Palettes, Registers, Written, answer_with, palettes_of, registers_of};
+use reply::Reply;
 use state::{Answer, State};
 
 // The write by number to the parts of a state, without the judgement of lawful. $41 and $44 store colours, and are lent the palettes.
-pub fn write_apart(
-    g: Registers,
-    number: u8,
-    value: u8,
-    ulafirst: &mut [u16; 256],
-    ulasecond: &mut [u16; 256],
-    tilefirst: &mut [u16; 256],
-    tilesecond: &mut [u16; 256],
-) -> Written
-    ensures { answer_with result ulafirst.new ulasecond.new tilefirst.new tilesecond.new ≡ write_by register_writes (state_with g ulafirst.old ulasecond.old tilefirst.old tilesecond.old) number value }
+#[tactic(auto, using(crate::proofs::Apart::bare_arm))]
+pub fn write_apart(g: Registers, number: u8, value: u8, p: &mut Palettes) -> Written
+    ensures { answer_with result p.new ≡ write_by register_writes (state_with g p.old) number value }
 {
     match number {
         0x08 => register_stored::write_peripheral(g, value),
@@ -39,10 +33,10 @@ pub fn write_apart(
         0x32 => register_stored::write_lores_x(g, value),
         0x33 => register_stored::write_lores_y(g, value),
         0x40 => register_palettes::write_index(g, value),
-        0x41 => write_eight(g, value, ulafirst, ulasecond, tilefirst, tilesecond),
+        0x41 => write_eight(g, value, p),
         0x42 => register_palettes::write_mask(g, value),
         0x43 => register_palettes::write_control(g, value),
-        0x44 => write_nine(g, value, ulafirst, ulasecond, tilefirst, tilesecond),
+        0x44 => write_nine(g, value, p),
         0x4A => register_stored::write_fallback(g, value),
         0x4C => register_stored::write_tile_transparent(g, value),
         0x68 => register_stored::write_ula_control(g, value),
@@ -59,57 +53,41 @@ pub fn write_numbered(s: State, number: u8, value: u8) -> Answer
     ensures { result ≡ write_by register_writes s number value }
 {
     let g = registers_of(s);
-    let mut ulafirst = s.ulafirst;
-    let mut ulasecond = s.ulasecond;
-    let mut tilefirst = s.tilefirst;
-    let mut tilesecond = s.tilesecond;
-    let w = write_apart(
-        g,
-        number,
-        value,
-        &mut ulafirst,
-        &mut ulasecond,
-        &mut tilefirst,
-        &mut tilesecond,
-    );
-    let mut t = s;
-    t.ulafirst = ulafirst;
-    t.ulasecond = ulasecond;
-    t.tilefirst = tilefirst;
-    t.tilesecond = tilesecond;
-    answer_on(w, t)
+    let mut p = palettes_of(s);
+    let w = write_apart(g, number, value, &mut p);
+    answer_with(w, p)
 }
 
 // The read by number without the judgement of lawful. Reads move nothing.
-pub fn read_numbered(s: State, number: u8) -> Reading
+pub fn read_numbered(s: State, number: u8) -> Result<u8, Reply>
     ensures { result ≡ read_by register_reads s number }
 {
     match number {
-        0x08 => give(s.ula.peripheral),
-        0x14 => give(s.ula.transparent),
-        0x15 => give(s.ula.layers),
-        0x1A => give(register_clips::ula_clip_next(s)),
-        0x1B => give(register_clips::tile_clip_next(s)),
-        0x1C => give(register_clips::read_turns(s)),
-        0x26 => give(s.ula.x),
-        0x27 => give(s.ula.y),
-        0x2F => give(s.tiles.xhigh),
-        0x30 => give(s.tiles.xlow),
-        0x31 => give(s.tiles.y),
-        0x32 => give(s.ula.loresx),
-        0x33 => give(s.ula.loresy),
-        0x40 => give(s.palette.index),
-        0x41 => give(register_palettes::read_eight(s)),
-        0x42 => give(s.palette.mask),
-        0x43 => give(s.palette.control),
-        0x44 => give(register_palettes::read_nine(s)),
-        0x4A => give(s.ula.fallback),
-        0x4C => give(s.tiles.transparent),
-        0x68 => give(s.ula.control),
-        0x6B => give(s.tiles.control),
-        0x6C => give(s.tiles.attribute),
-        0x6E => give(s.tiles.map),
-        0x6F => give(s.tiles.definitions),
+        0x08 => Ok(s.ula.peripheral),
+        0x14 => Ok(s.ula.transparent),
+        0x15 => Ok(s.ula.layers),
+        0x1A => Ok(register_clips::clip_next(s.ulaclip, s.turns.ula)),
+        0x1B => Ok(register_clips::clip_next(s.tileclip, s.turns.tiles)),
+        0x1C => Ok(register_clips::read_turns(s)),
+        0x26 => Ok(s.ula.x),
+        0x27 => Ok(s.ula.y),
+        0x2F => Ok(s.tiles.xhigh),
+        0x30 => Ok(s.tiles.xlow),
+        0x31 => Ok(s.tiles.y),
+        0x32 => Ok(s.ula.loresx),
+        0x33 => Ok(s.ula.loresy),
+        0x40 => Ok(s.palette.index),
+        0x41 => Ok(register_palettes::read_eight(s)),
+        0x42 => Ok(s.palette.mask),
+        0x43 => Ok(s.palette.control),
+        0x44 => Ok(register_palettes::read_nine(s)),
+        0x4A => Ok(s.ula.fallback),
+        0x4C => Ok(s.tiles.transparent),
+        0x68 => Ok(s.ula.control),
+        0x6B => Ok(s.tiles.control),
+        0x6C => Ok(s.tiles.attribute),
+        0x6E => Ok(s.tiles.map),
+        0x6F => Ok(s.tiles.definitions),
         _ => no_read(),
     }
 }

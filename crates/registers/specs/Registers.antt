@@ -3,8 +3,7 @@
 use Rattle.std.specs.Prelude.{ℕ}
 use Rattle.state.specs.declared.State.{State}
 use Rattle.state.specs.declared.Answer.{Answer}
-use Rattle.register_answers.specs.declared.Reading.{Reading}
-use Rattle.register_answers.specs.Answers.{write_lawful, read_lawful}
+use Rattle.register_answers.specs.Answers.{Reading, write_lawful, read_lawful}
 use Rattle.register_answers.specs.Rows.{write_by, read_by}
 use Rattle.register_ports.specs.Ports.{port_writes, port_reads}
 use Rattle.register_tables.specs.Tables.{register_writes, register_reads}

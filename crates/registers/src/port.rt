@@ -2,7 +2,6 @@
 ghost use Rattle.std.specs.Prelude.{◌≡◌};
 ghost use Rattle.registers.specs.Registers.{write_port, read_port};
 
-use register_answers::Reading;
 use reply::Reply;
 use state::{Answer, State, lawful};
 
@@ -20,16 +19,14 @@ pub fn write_port(s: State, port: u16, value: u8) -> Answer
     }
 }
 
-// The byte that a port reads as, or the reply that refuses it and 0.
-pub fn read_port(s: State, port: u16) -> Reading
+// The byte that a port reads as, or the reply that refuses it.
+#[tactic(auto, unfolding(crate::specs::Registers::read_port))]
+pub fn read_port(s: State, port: u16) -> Result<u8, Reply>
     ensures { result ≡ read_port s port }
 {
     if lawful(s) {
         register_ports::read_at(s, port)
     } else {
-        Reading {
-            reply: Reply::NotLawful,
-            value: 0,
-        }
+        Err(Reply::NotLawful)
     }
 }

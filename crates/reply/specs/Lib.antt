@@ -1,3 +1,4 @@
 pub mod Reply
 pub mod First
+pub mod Answered
 pub mod Claims

@@ -2,11 +2,11 @@
 ghost use Rattle.std.specs.Prelude.{◌≡◌};
 ghost use Rattle.reply.specs.First.{first_of};
 
-use crate::{Reply, number};
+use crate::Reply;
 
 // The first of two replies that refuses.
 pub fn first_of(first: Reply, next: Reply) -> Reply
     ensures { result ≡ first_of first next }
 {
-    if number(first) == 0 { next } else { first }
+    if first.is_done() { next } else { first }
 }

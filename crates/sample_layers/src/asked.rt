@@ -1,9 +1,8 @@
 // A line with lent layers asked for, and its answer printed.
 ghost use Rattle.std.specs.Prelude.{◌≤◌};
 
-use host::report;
 use state::State;
-use std::io;
+use std::{fmt, io};
 use surface::LineNumber;
 
 // Border and paper 0 are colour 56, the fallback is 448.
@@ -18,47 +17,38 @@ fn screen(order: u8, transparent: u8, border: u8) -> State {
     s
 }
 
-fn print_reply(rt: &impl Print, label: &[u8], n: u8) -> io::Result<()> {
-    report::word(rt, label)?;
-    report::word(rt, b": ")?;
-    report::number(rt, n as u64)
-}
-
-fn print_number(rt: &impl Print, n: u16) -> io::Result<()> {
-    report::word(rt, b" ")?;
-    report::number(rt, n as u64)
+// The reply, and numbers of the line.
+fn print_answer<D: fmt::Display + Drop>(
+    rt: &impl Print,
+    label: D,
+    number: u8,
+    dots: &[u16],
+) -> io::Result<()> {
+    print!(rt; "{label}: {number}")?;
+    for dot in dots {
+        print!(rt; " {dot}")?;
+    }
+    println!(rt; "")
 }
 
 // The first six dots: sprite 100 over or under Layer 2's 200, each alone, neither, and Layer 2's 300 with priority, with the sprite and
 // alone.
-pub fn ask_order(rt: &impl Print, label: &[u8], order: u8, transparent: u8) -> io::Result<()> {
+pub fn ask_order(rt: &impl Print, label: &str, order: u8, transparent: u8) -> io::Result<()> {
     let bank = [0u8; 16384];
     let mut dots = [65535u16; 640];
     let mut layer2 = [512u16; 640];
     let mut sprites = [512u16; 640];
-    layer2[0] = 200;
-    layer2[2] = 200;
-    layer2[4] = 1324;
-    layer2[5] = 1324;
-    sprites[0] = 100;
-    sprites[1] = 100;
-    sprites[4] = 100;
+    layer2[..6].copy_from_slice(&[200, 512, 200, 512, 1324, 1324]);
+    sprites[..6].copy_from_slice(&[100, 100, 512, 512, 100, 512]);
     let s = screen(order, transparent, 0);
     let r = layers::draw_layers(LineNumber(0), &bank, &bank, &layer2, &sprites, s, &mut dots);
-    print_reply(rt, label, reply::number(r))?;
-    print_number(rt, dots[0])?;
-    print_number(rt, dots[1])?;
-    print_number(rt, dots[2])?;
-    print_number(rt, dots[3])?;
-    print_number(rt, dots[4])?;
-    print_number(rt, dots[5])?;
-    report::word(rt, b"\n")
+    print_answer(rt, label, u8::from(r), &dots[..6])
 }
 
 // The last numbers of both lent lines, and the last dot.
-pub fn ask_number(
+pub fn ask_number<D: fmt::Display + Drop>(
     rt: &impl Print,
-    label: &[u8],
+    label: D,
     layer2: u16,
     sprite: u16,
     order: u8,
@@ -80,15 +70,13 @@ pub fn ask_number(
         s,
         &mut dots,
     );
-    print_reply(rt, label, reply::number(r))?;
-    print_number(rt, dots[639])?;
-    report::word(rt, b"\n")
+    print_answer(rt, label, u8::from(r), &dots[639..])
 }
 
-// Lines of these lengths, each at most one past the right one.
+// Lines of these lengths, each at most one past the right one, and the first dot.
 pub fn ask_lengths(
     rt: &impl Print,
-    label: &[u8],
+    label: &str,
     layer2: usize,
     sprites: usize,
     width: usize,
@@ -109,7 +97,5 @@ pub fn ask_lengths(
         s,
         &mut dots[..width],
     );
-    print_reply(rt, label, reply::number(r))?;
-    print_number(rt, dots[0])?;
-    report::word(rt, b"\n")
+    print_answer(rt, label, u8::from(r), &dots[..1])
 }

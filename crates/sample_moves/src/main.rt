@@ -5,15 +5,14 @@
 use host::files::bytes_of;
 use host::marks::{MARK, untouched};
 use host::records::{OLD_RECORD, RECORD, RECORD_FILE};
-use host::report;
 use record_layout::Judgement;
 use std::io;
 use std::rt::Files;
 
 // Whether a target is the bytes of a file.
-fn is_file(rt: &impl Files, target: &[u8], name: &[u8]) -> io::Result<bool> {
+fn is_file(rt: &impl Files, target: &[u8], name: &str) -> io::Result<bool> {
     let mut bytes = [0u8; RECORD_FILE];
-    let n = bytes_of(rt, name, &mut bytes)?;
+    let n = bytes_of(rt, name.as_bytes(), &mut bytes)?;
     Ok(target == &bytes[..n])
 }
 
@@ -22,83 +21,47 @@ fn print_answer(
     rt: &(impl Print + Files),
     judgement: Judgement,
     target: &[u8],
-    expected: &[u8],
+    expected: &str,
 ) -> io::Result<()> {
-    let r = judgement.reply;
-    report::number(rt, reply::number(r) as u64)?;
-    report::word(rt, b" at ")?;
-    report::number(rt, judgement.place as u64)?;
+    print!(rt; "{} at {}", u8::from(judgement.reply), judgement.place)?;
     if untouched(target) {
-        report::word(rt, b" untouched\n")
+        println!(rt; " untouched")
     } else if is_file(rt, target, expected)? {
-        report::word(rt, b" as ")?;
-        report::word(rt, expected)?;
-        report::word(rt, b"\n")
+        println!(rt; " as {expected}")
     } else {
-        report::word(rt, b" otherwise\n")
+        println!(rt; " otherwise")
     }
 }
 
-fn print_move(rt: &impl Print, word: &[u8], name: &[u8], room: usize) -> io::Result<()> {
-    report::word(rt, word)?;
-    report::word(rt, name)?;
-    report::word(rt, b" into ")?;
-    report::number(rt, room as u64)?;
-    report::word(rt, b": ")
-}
-
-fn up(rt: &(impl Print + Files), name: &[u8], target: &mut [u8]) -> io::Result<()> {
-    let mut bytes = [0u8; RECORD_FILE];
-    let n = bytes_of(rt, name, &mut bytes)?;
-    let r = record_moves::move_up(&bytes[..n], target);
-    print_move(rt, b"up ", name, target.len())?;
-    print_answer(rt, r, target, b"new.rec")
-}
-
-fn back(rt: &(impl Print + Files), name: &[u8], target: &mut [u8]) -> io::Result<()> {
-    let mut bytes = [0u8; RECORD_FILE];
-    let n = bytes_of(rt, name, &mut bytes)?;
-    let r = record_moves::move_back(&bytes[..n], target);
-    print_move(rt, b"back ", name, target.len())?;
-    print_answer(rt, r, target, b"old.rec")
-}
-
-// What is refused comes before what is moved, since it leaves the target; a file that is missing is no record.
-fn print_up(rt: &(impl Print + Files), target: &mut [u8]) -> io::Result<()> {
-    up(rt, b"other.rec", target)?;
-    up(rt, b"new.rec", target)?;
-    up(rt, b"missing", target)?;
-    up(rt, b"old.rec", target)
-}
-
-fn print_back(rt: &(impl Print + Files), target: &mut [u8]) -> io::Result<()> {
-    back(rt, b"other.rec", target)?;
-    back(rt, b"old.rec", target)?;
-    back(rt, b"missing", target)?;
-    back(rt, b"new.rec", target)
-}
-
-// Targets as long as the record moved from: 3, before all else.
-fn print_wrong_targets(
+// Each record of a name is moved into the target, one way or the other.
+fn print_moves<M: Fn(&[u8], &mut [u8]) -> Judgement>(
     rt: &(impl Print + Files),
-    old: &mut [u8],
-    new: &mut [u8],
-) -> io::Result<()> {
-    up(rt, b"old.rec", old)?;
-    up(rt, b"missing", old)?;
-    back(rt, b"new.rec", new)?;
-    back(rt, b"other.rec", new)?;
-    back(rt, b"missing", new)
+    word: &str,
+    names: &[&str],
+    target: &mut [u8],
+    move_into: M,
+    expected: &str,
+) -> io::Result<()>
+    requires { M.IsAlwaysCallable move_into }
+{
+    for name in names {
+        let mut bytes = [0u8; RECORD_FILE];
+        let n = bytes_of(rt, name.as_bytes(), &mut bytes)?;
+        let judgement = move_into(&bytes[..n], target);
+        print!(rt; "{word} {name} into {}: ", target.len())?;
+        print_answer(rt, judgement, target, expected)?;
+    }
+    Ok(())
 }
 
-fn print_fields(rt: &impl Print, x: u8, y: u8, border: u8) -> io::Result<()> {
-    report::word(rt, b"back new.rec with $26 ")?;
-    report::number(rt, x as u64)?;
-    report::word(rt, b", $27 ")?;
-    report::number(rt, y as u64)?;
-    report::word(rt, b", border ")?;
-    report::number(rt, border as u64)?;
-    report::word(rt, b": ")
+fn up(rt: &(impl Print + Files), names: &[&str], target: &mut [u8]) -> io::Result<()> {
+    let move_into = |from: &[u8], to: &mut [u8]| record_moves::move_up(from, to);
+    print_moves(rt, "up", names, target, move_into, "new.rec")
+}
+
+fn back(rt: &(impl Print + Files), names: &[&str], target: &mut [u8]) -> io::Result<()> {
+    let move_into = |from: &[u8], to: &mut [u8]| record_moves::move_back(from, to);
+    print_moves(rt, "back", names, target, move_into, "old.rec")
 }
 
 // new.rec, whose $32 is 240 and $33 101, with other bytes at the places of $26, $27 and the border, written out as the files are.
@@ -110,23 +73,37 @@ fn back_with(rt: &(impl Print + Files), x: u8, y: u8, border: u8) -> io::Result<
     bytes[35] = border;
     let mut target = [MARK; OLD_RECORD];
     let r = record_moves::move_back(&bytes, &mut target);
-    print_fields(rt, x, y, border)?;
-    print_answer(rt, r, &target, b"old.rec")
-}
-
-fn print_pairs(rt: &(impl Print + Files)) -> io::Result<()> {
-    back_with(rt, 240, 101, 5)?;
-    back_with(rt, 241, 101, 5)?;
-    back_with(rt, 240, 100, 5)?;
-    back_with(rt, 240, 192, 5)?;
-    back_with(rt, 241, 100, 8)
+    print!(rt; "back new.rec with $26 {x}, $27 {y}, border {border}: ")?;
+    print_answer(rt, r, &target, "old.rec")
 }
 
 fn main(rt: HostRuntime) -> io::Result<()> {
     let mut old = [MARK; OLD_RECORD];
     let mut new = [MARK; RECORD];
-    print_wrong_targets(&rt, &mut old, &mut new)?;
-    print_up(&rt, &mut new)?;
-    print_back(&rt, &mut old)?;
-    print_pairs(&rt)
+
+    // Targets as long as the record moved from: 3, before all else.
+    up(&rt, &["old.rec", "missing"], &mut old)?;
+    back(&rt, &["new.rec", "other.rec", "missing"], &mut new)?;
+
+    // What is refused comes before what is moved, since it leaves the target; a file that is missing is no record.
+    up(
+        &rt,
+        &["other.rec", "new.rec", "missing", "old.rec"],
+        &mut new,
+    )?;
+    back(
+        &rt,
+        &["other.rec", "old.rec", "missing", "new.rec"],
+        &mut old,
+    )?;
+    for (x, y, border) in [
+        (240, 101, 5),
+        (241, 101, 5),
+        (240, 100, 5),
+        (240, 192, 5),
+        (241, 100, 8),
+    ] {
+        back_with(&rt, x, y, border)?;
+    }
+    Ok(())
 }

@@ -1,9 +1,7 @@
 // Bytes that are read as a record and written back.
-use host::files::{Read, read_file};
+use host::files::read_file;
 use host::records::{OLD_RECORD, RECORD, RECORD_FILE};
-use host::report;
 use record_layout::RecordRead;
-use reply::Reply;
 use state::State;
 use std::io;
 use std::rt::Files;
@@ -21,51 +19,47 @@ fn written_as(s: State, bytes: &[u8]) -> bool {
     }
 }
 
-// A reading's reply and place; then whether writing gives the same bytes, or whether a refusal gives the reset state.
-pub fn judge_answer(rt: &impl Print, a: RecordRead, bytes: &[u8]) -> io::Result<()> {
-    let r = a.reply;
-    report::number(rt, reply::number(r) as u64)?;
-    report::word(rt, b" at ")?;
-    report::number(rt, a.place as u64)?;
-    if let Reply::Done = r {
+// Whether writing gives the same bytes, or whether a refusal gives the reset state.
+fn outcome(a: RecordRead, bytes: &[u8]) -> &'static str {
+    if a.reply.is_done() {
         if written_as(a.state, bytes) {
-            report::word(rt, b" same\n")?;
+            "same"
         } else {
-            report::word(rt, b" different\n")?;
+            "different"
         }
     } else {
         let mut plain = [0u8; RECORD];
         record::write_record(state::reset(), &mut plain);
         if written_as(a.state, &plain) {
-            report::word(rt, b" reset\n")?;
+            "reset"
         } else {
-            report::word(rt, b" not reset\n")?;
+            "not reset"
         }
     }
-    Ok(())
 }
 
-fn judge(rt: &impl Print, bytes: &[u8]) -> io::Result<()> {
-    judge_answer(rt, record::read_record(bytes), bytes)
+// A reading's reply, place and outcome.
+pub fn judge_answer(rt: &impl Print, a: RecordRead, bytes: &[u8]) -> io::Result<()> {
+    let number = u8::from(a.reply);
+    println!(rt; "{number} at {} {}", a.place, outcome(a, bytes))
 }
 
 // The first n of the bytes.
 pub fn judge_first(rt: &impl Print, bytes: &[u8], n: usize) -> io::Result<()> {
-    if n <= bytes.len() {
-        judge(rt, &bytes[..n])?;
+    if let Some(record) = bytes.get(..n) {
+        judge_answer(rt, record::read_record(record), record)?;
     }
     Ok(())
 }
 
 // A file of the data folder; one that is longer than a record shows as one byte too many.
-pub fn print_file(rt: &(impl Print + Files), name: &[u8]) -> io::Result<()> {
-    report::word(rt, name)?;
+pub fn print_file(rt: &(impl Print + Files), name: &str) -> io::Result<()> {
     let mut bytes = [0u8; RECORD_FILE];
-    let got = read_file(rt, name, &mut bytes)?;
-    let Read::Bytes(n) = got else {
-        report::word(rt, b" missing\n")?;
-        return Ok(());
-    };
-    report::word(rt, b" ")?;
-    judge_first(rt, &bytes, n)
+    match read_file(rt, name.as_bytes(), &mut bytes)? {
+        Some(n) => {
+            print!(rt; "{name} ")?;
+            judge_first(rt, &bytes, n)
+        }
+        None => println!(rt; "{name} missing"),
+    }
 }

@@ -11,33 +11,27 @@ mod refused;
 
 use judged::print_file;
 use std::io;
-use std::rt::Files;
 
-// The record of a number.
-fn print_numbered(rt: &(impl Print + Files), n: u8) -> io::Result<()> {
-    let name = [b'0' + n / 10 % 10, b'0' + n % 10, b'.', b'r', b'e', b'c'];
-    print_file(rt, &name)
-}
-
-// Those of an outside emulator, 00, 02, .. 38.
-fn print_outside(rt: &(impl Print + Files)) -> io::Result<()> {
-    for i in 0..20 {
-        print_numbered(rt, i * 2)?;
-    }
-    Ok(())
-}
+// Those of an outside emulator.
+const OUTSIDE: [&str; 20] = [
+    "00.rec", "02.rec", "04.rec", "06.rec", "08.rec", "10.rec", "12.rec", "14.rec", "16.rec",
+    "18.rec", "20.rec", "22.rec", "24.rec", "26.rec", "28.rec", "30.rec", "32.rec", "34.rec",
+    "36.rec", "38.rec",
+];
 
 fn main(rt: HostRuntime) -> io::Result<()> {
-    print_outside(&rt)?;
-    print_file(&rt, b"own1.rec")?;
-    fields::print_fields(&rt, b"own1.rec")?;
-    print_file(&rt, b"own2.rec")?;
-    fields::print_fields(&rt, b"own2.rec")?;
-    print_file(&rt, b"own3.rec")?;
-    fields::print_fields(&rt, b"own3.rec")?;
-    print_file(&rt, b"own4.rec")?;
-    readers::print_readers(&rt, b"own1.rec")?;
-    readers::print_readers(&rt, b"own3.rec")?;
+    for name in OUTSIDE {
+        print_file(&rt, name)?;
+    }
+    print_file(&rt, "own1.rec")?;
+    fields::print_fields(&rt, "own1.rec")?;
+    print_file(&rt, "own2.rec")?;
+    fields::print_fields(&rt, "own2.rec")?;
+    print_file(&rt, "own3.rec")?;
+    fields::print_fields(&rt, "own3.rec")?;
+    print_file(&rt, "own4.rec")?;
+    readers::print_readers(&rt, "own1.rec")?;
+    readers::print_readers(&rt, "own3.rec")?;
     damaged::print_damaged(&rt)?;
     refused::print_refused(&rt)
 }

@@ -2,48 +2,41 @@
 ghost use Rattle.std.specs.Prelude.{◌≤◌};
 
 use crate::states;
-use host::report;
+use reply::Reply;
 use state::State;
 use std::io;
 use surface::LineNumber;
 
-fn print_answer(rt: &impl Print, label: &[u8], n: u8, first: u16, last: u16) -> io::Result<()> {
-    report::word(rt, label)?;
-    report::word(rt, b": ")?;
-    report::number(rt, n as u64)?;
-    report::word(rt, b" ")?;
-    report::number(rt, first as u64)?;
-    report::word(rt, b" ")?;
-    report::number(rt, last as u64)?;
-    report::word(rt, b"\n")
+fn print_answer(rt: &impl Print, label: &str, r: Reply, first: u16, last: u16) -> io::Result<()> {
+    println!(rt; "{label}: {} {first} {last}", u8::from(r))
 }
 
-fn draw(rt: &impl Print, label: &[u8], y: usize, s: State) -> io::Result<()> {
+fn draw(rt: &impl Print, label: &str, y: usize, s: State) -> io::Result<()> {
     let bank = [0u8; 16384];
     let mut dots = [65535u16; 640];
     let r = line::draw(LineNumber(y), &bank, &bank, s, &mut dots);
-    print_answer(rt, label, reply::number(r), dots[0], dots[639])
+    print_answer(rt, label, r, dots[0], dots[639])
 }
 
 // Line y of the plain state after writes of three bytes each.
-pub fn ask(rt: &impl Print, label: &[u8], y: usize, writes: &[u8]) -> io::Result<()> {
+pub fn ask(rt: &impl Print, label: &str, y: usize, writes: &[u8]) -> io::Result<()> {
     draw(rt, label, y, states::after(writes))
 }
 
 // Line y of the plain state with a border.
-pub fn ask_bordered(rt: &impl Print, label: &[u8], y: usize, border: u8) -> io::Result<()> {
+pub fn ask_bordered(rt: &impl Print, label: &str, y: usize, border: u8) -> io::Result<()> {
     draw(rt, label, y, states::bordered(states::plain(), border))
 }
 
 // Line 0 of the plain state after writes, with a border that is not lawful.
-pub fn ask_unlawful(rt: &impl Print, label: &[u8], writes: &[u8]) -> io::Result<()> {
+pub fn ask_unlawful(rt: &impl Print, label: &str, writes: &[u8]) -> io::Result<()> {
     draw(rt, label, 0, states::bordered(states::after(writes), 8))
 }
 
 // Line y of the plain state with a border, and buffers of these lengths, each at most one past the right one.
 pub fn ask_lengths(
     rt: &impl Print,
-    label: &[u8],
+    label: &str,
     y: usize,
     ula: usize,
     tile: usize,
@@ -63,5 +56,5 @@ pub fn ask_lengths(
         s,
         &mut dots[..width],
     );
-    print_answer(rt, label, reply::number(r), dots[0], dots[639])
+    print_answer(rt, label, r, dots[0], dots[639])
 }

@@ -4,8 +4,6 @@ ghost use Rattle.reply.specs.Reply.{reply_number};
 ghost use Rattle.registers.specs.Registers.{write_register};
 ghost use Rattle.sample_refusals.specs.States.{plain_state, entry_written, after_writes, border_state};
 
-use lists::u16_of;
-use reply::number;
 use state::State;
 
 // Index 16 is what an empty screen and its border show.
@@ -21,7 +19,7 @@ pub fn plain() -> State
 fn enter(s: State, high: u8, low: u8, value: u8) -> State
     ensures { result ≡ entry_written s high low value }
 {
-    let n = u16_of(high) * 256 + u16_of(low);
+    let n = u16::from(high) * 256 + u16::from(low);
     if n < 0xFE {
         let a = registers::write_register(s, low, value);
         a.state
@@ -31,16 +29,14 @@ fn enter(s: State, high: u8, low: u8, value: u8) -> State
     }
 }
 
-// The plain state after writes of three bytes each, a number and a value.
+// The plain state after writes of three bytes each, a number and a value; counted, as the definition counts them.
 pub fn after(writes: &[u8]) -> State
     ensures { result ≡ after_writes writes.now (length writes.now / 3) }
 {
     let mut s = plain();
-    let mut i = 0;
-    while i < writes.len() / 3 {
+    for i in 0..writes.len() / 3 {
         let o = i * 3;
         s = enter(s, writes[o], writes[o + 1], writes[o + 2]);
-        i += 1;
     }
     s
 }
@@ -59,6 +55,5 @@ pub fn mask_reply(mask: u8) -> u8
     ensures { result ≡ reply_number (write_register plain_state 0x42 mask).reply }
 {
     let a = registers::write_register(plain(), 0x42, mask);
-    let r = a.reply;
-    number(r)
+    u8::from(a.reply)
 }

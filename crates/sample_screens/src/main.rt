@@ -9,7 +9,6 @@ mod refusals;
 mod tally;
 
 use host::files::bytes_of;
-use host::report;
 use lists::put;
 use state::State;
 use std::io;
@@ -35,41 +34,39 @@ fn marked() -> State {
     s
 }
 
-fn print_both(rt: &impl Print, name: &[u8], words: &[u8], file: &[u8]) -> io::Result<()> {
-    report::word(rt, name)?;
-    report::word(rt, words)?;
-    report::word(rt, b"\n")?;
+fn print_both(rt: &impl Print, name: &str, words: &str, file: &[u8]) -> io::Result<()> {
+    println!(rt; "{name}{words}")?;
     readings::print_reset(rt, file)?;
     readings::print_marked(rt, file, marked())
 }
 
-fn print_file(rt: &(impl Print + Files), name: &[u8]) -> io::Result<()> {
+fn print_file(rt: &(impl Print + Files), name: &str) -> io::Result<()> {
     let mut file = [0u8; 12354];
-    let n = bytes_of(rt, name, &mut file)?;
-    print_both(rt, name, b"", &file[..n])
+    let n = bytes_of(rt, name.as_bytes(), &mut file)?;
+    print_both(rt, name, "", &file[..n])
 }
 
 // The first n bytes of a file, and after them the colours of the file that has some.
-fn print_coloured(rt: &(impl Print + Files), name: &[u8], n: usize) -> io::Result<()>
+fn print_coloured(rt: &(impl Print + Files), name: &str, n: usize) -> io::Result<()>
     requires { n ≤ 12289 }
 {
     let mut file = [0u8; 12354];
-    bytes_of(rt, name, &mut file)?;
+    bytes_of(rt, name.as_bytes(), &mut file)?;
     let mut other = [0u8; 6976];
     bytes_of(rt, b"struct0p.6976.scr", &mut other)?;
     let from = 6912;
     put(&mut file, n, &other[from..]);
     let end = n + 64;
-    print_both(rt, name, b" with 64 colours", &file[..end])
+    print_both(rt, name, " with 64 colours", &file[..end])
 }
 
 fn main(rt: HostRuntime) -> io::Result<()> {
-    print_file(&rt, b"struct0.6912.scr")?;
-    print_file(&rt, b"struct0p.6976.scr")?;
-    print_file(&rt, b"struct2.12288.scr")?;
-    print_coloured(&rt, b"struct2.12288.scr", 12288)?;
-    print_file(&rt, b"struct6_4.12289.scr")?;
-    print_coloured(&rt, b"struct6_4.12289.scr", 12289)?;
+    print_file(&rt, "struct0.6912.scr")?;
+    print_file(&rt, "struct0p.6976.scr")?;
+    print_file(&rt, "struct2.12288.scr")?;
+    print_coloured(&rt, "struct2.12288.scr", 12288)?;
+    print_file(&rt, "struct6_4.12289.scr")?;
+    print_coloured(&rt, "struct6_4.12289.scr", 12289)?;
     refusals::print_lengths(&rt)?;
     refusals::print_ports(&rt)?;
     refusals::print_read_order(&rt)?;

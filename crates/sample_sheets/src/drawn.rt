@@ -4,7 +4,7 @@ ghost use Rattle.tilemap_entries.specs.Bounds.{SetupBounds};
 ghost use Rattle.pack_rule.specs.Sheet.{sheet_setup};
 ghost use Rattle.sample_sheets.specs.Counted.{bank_of, right_at, wrong_in};
 
-use lists::{put, usize_of};
+use lists::put;
 use tilemap_entries::TileSetup;
 
 // The index at pixel i of 81,920 is that of the picture, with palette offset 0.
@@ -15,7 +15,7 @@ fn is_right(picture: &[u8], bank: &[u8], t: TileSetup, i: usize) -> bool
     let x = i % 320;
     let y = i / 320;
     tilemap_rule::index_at(t, bank, x, y)
-        == tilemap_turns::half(x, usize_of(picture[y * 160 + x / 2]))
+        == tilemap_turns::half(x, usize::from(picture[y * 160 + x / 2]))
 }
 
 fn count_wrong(picture: &[u8], bank: &[u8], t: TileSetup) -> u64

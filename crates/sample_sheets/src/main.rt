@@ -7,47 +7,38 @@ mod named;
 
 use drawn::differ;
 use host::files::bytes_of;
-use host::report;
 use named::named;
 use std::io;
 use std::rt::Files;
 
-fn print(rt: &impl Print, label: &[u8], tiles: u64, wrong: u64) -> io::Result<()> {
-    report::word(rt, label)?;
-    report::word(rt, b": tiles ")?;
-    report::number(rt, tiles)?;
-    report::word(rt, b", pixels that differ ")?;
-    report::number(rt, wrong)?;
-    report::word(rt, b"\n")
+fn print(rt: &impl Print, label: &str, tiles: u64, wrong: u64) -> io::Result<()> {
+    println!(rt; "{label}: tiles {tiles}, pixels that differ {wrong}")
 }
 
-fn print_picture(rt: &impl Print, label: &[u8], picture: &[u8]) -> io::Result<()> {
+fn print_picture(rt: &impl Print, label: &str, picture: &[u8]) -> io::Result<()> {
     if picture.len() != 40960 {
-        report::word(rt, b"no picture\n")?;
-        return Ok(());
+        return println!(rt; "no picture");
     }
     let mut map = [0u8; 2560];
     let mut definitions = [0u8; 8192];
-    let r = packer::pack(picture, 256, 0, &mut map, &mut definitions);
+    let tiles = packer::pack(picture, 256, 0, &mut map, &mut definitions).unwrap_or(0);
     let wrong = differ(picture, &map, &definitions);
-    print(rt, label, r.count as u64, wrong)
+    print(rt, label, tiles as u64, wrong)
 }
 
 // The packing of a picture.
-fn print_packed(rt: &(impl Print + Files), label: &[u8], path: &[u8]) -> io::Result<()> {
+fn print_packed(rt: &(impl Print + Files), label: &str, path: &str) -> io::Result<()> {
     let mut picture = [0u8; 40961];
-    let n = bytes_of(rt, path, &mut picture)?;
+    let n = bytes_of(rt, path.as_bytes(), &mut picture)?;
     print_picture(rt, label, &picture[..n])
 }
 
-fn print_parts(rt: &impl Print, label: &[u8], picture: &[u8], sheet: &[u8]) -> io::Result<()> {
+fn print_parts(rt: &impl Print, label: &str, picture: &[u8], sheet: &[u8]) -> io::Result<()> {
     if picture.len() != 40960 {
-        report::word(rt, b"no picture\n")?;
-        return Ok(());
+        return println!(rt; "no picture");
     }
     if sheet.len() != 10752 {
-        report::word(rt, b"no sheet\n")?;
-        return Ok(());
+        return println!(rt; "no sheet");
     }
     let start = 0;
     let seam = 2560;
@@ -58,36 +49,21 @@ fn print_parts(rt: &impl Print, label: &[u8], picture: &[u8], sheet: &[u8]) -> i
 }
 
 // A sheet, map first, and the picture it was made for.
-fn print_sheet(
-    rt: &(impl Print + Files),
-    label: &[u8],
-    path: &[u8],
-    from: &[u8],
-) -> io::Result<()> {
+fn print_sheet(rt: &(impl Print + Files), label: &str, path: &str, from: &str) -> io::Result<()> {
     let mut picture = [0u8; 40961];
-    let n = bytes_of(rt, path, &mut picture)?;
+    let n = bytes_of(rt, path.as_bytes(), &mut picture)?;
     let mut sheet = [0u8; 10753];
-    let m = bytes_of(rt, from, &mut sheet)?;
+    let m = bytes_of(rt, from.as_bytes(), &mut sheet)?;
     print_parts(rt, label, &picture[..n], &sheet[..m])
 }
 
 fn main(rt: HostRuntime) -> io::Result<()> {
-    print_packed(&rt, b"plain", b"plain.pic")?;
-    print_packed(&rt, b"mirror", b"mirror.pic")?;
-    print_packed(&rt, b"allsym", b"allsym.pic")?;
-    print_packed(&rt, b"one", b"one.pic")?;
-    print_sheet(&rt, b"plain by rgbgfx", b"plain.pic", b"plain.rgbgfx.sheet")?;
-    print_sheet(
-        &rt,
-        b"mirror by rgbgfx",
-        b"mirror.pic",
-        b"mirror.rgbgfx.sheet",
-    )?;
-    print_sheet(
-        &rt,
-        b"allsym by rgbgfx",
-        b"allsym.pic",
-        b"allsym.rgbgfx.sheet",
-    )?;
-    print_sheet(&rt, b"one by rgbgfx", b"one.pic", b"one.rgbgfx.sheet")
+    print_packed(&rt, "plain", "plain.pic")?;
+    print_packed(&rt, "mirror", "mirror.pic")?;
+    print_packed(&rt, "allsym", "allsym.pic")?;
+    print_packed(&rt, "one", "one.pic")?;
+    print_sheet(&rt, "plain by rgbgfx", "plain.pic", "plain.rgbgfx.sheet")?;
+    print_sheet(&rt, "mirror by rgbgfx", "mirror.pic", "mirror.rgbgfx.sheet")?;
+    print_sheet(&rt, "allsym by rgbgfx", "allsym.pic", "allsym.rgbgfx.sheet")?;
+    print_sheet(&rt, "one by rgbgfx", "one.pic", "one.rgbgfx.sheet")
 }

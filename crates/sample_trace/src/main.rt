@@ -26,92 +26,85 @@ fn unlawful() -> State {
 }
 
 fn print_none(rt: &impl Print) -> io::Result<()> {
-    ask(rt, b"no entries", 0, &traces::NONE)?;
-    ask(rt, b"no entries", 255, &traces::NONE)?;
-    carry(rt, b"no entries", &traces::NONE)?;
-    carry_plain(rt, b"no entries", &traces::NONE)
+    ask(rt, "no entries", 0, &traces::NONE)?;
+    ask(rt, "no entries", 255, &traces::NONE)?;
+    carry(rt, "no entries", &traces::NONE)?;
+    carry_plain(rt, "no entries", &traces::NONE)
+}
+
+fn ask_lines(rt: &impl Print, label: &str, lines: &[usize], trace: &[u8]) -> io::Result<()> {
+    for line in lines {
+        ask(rt, label, *line, trace)?;
+    }
+    Ok(())
 }
 
 // A line is drawn by the entries stamped with it or less.
 fn print_stamps(rt: &impl Print) -> io::Result<()> {
-    ask(rt, b"stamps 100, 100, 101", 99, &traces::STAMPS)?;
-    ask(rt, b"stamps 100, 100, 101", 100, &traces::STAMPS)?;
-    ask(rt, b"stamps 100, 100, 101", 101, &traces::STAMPS)?;
-    ask(rt, b"stamps 100, 100, 101", 255, &traces::STAMPS)?;
-    carry(rt, b"stamps 100, 100, 101", &traces::STAMPS)?;
-    carry_plain(rt, b"stamps 100, 100, 101", &traces::STAMPS)?;
-    ask(rt, b"stamps 0, 255", 0, &traces::ENDS)?;
-    ask(rt, b"stamps 0, 255", 254, &traces::ENDS)?;
-    ask(rt, b"stamps 0, 255", 255, &traces::ENDS)?;
-    carry(rt, b"stamps 0, 255", &traces::ENDS)?;
-    ask(rt, b"border 1, then 0", 50, &traces::TWICE)?;
-    ask(rt, b"half a colour", 19, &traces::HALVES)?;
-    ask(rt, b"half a colour", 20, &traces::HALVES)?;
-    carry(rt, b"half a colour", &traces::HALVES)
+    let label = "stamps 100, 100, 101";
+    ask_lines(rt, label, &[99, 100, 101, 255], &traces::STAMPS)?;
+    carry(rt, label, &traces::STAMPS)?;
+    carry_plain(rt, label, &traces::STAMPS)?;
+    ask_lines(rt, "stamps 0, 255", &[0, 254, 255], &traces::ENDS)?;
+    carry(rt, "stamps 0, 255", &traces::ENDS)?;
+    ask(rt, "border 1, then 0", 50, &traces::TWICE)?;
+    ask_lines(rt, "half a colour", &[19, 20], &traces::HALVES)?;
+    carry(rt, "half a colour", &traces::HALVES)
 }
 
 // From a refused entry on every line is refused by it.
 fn print_entries(rt: &impl Print) -> io::Result<()> {
-    ask(rt, b"no register", 19, &traces::NO_REGISTER)?;
-    ask(rt, b"no register", 20, &traces::NO_REGISTER)?;
-    ask(rt, b"no register", 30, &traces::NO_REGISTER)?;
-    ask(rt, b"no register", 255, &traces::NO_REGISTER)?;
-    carry(rt, b"no register", &traces::NO_REGISTER)?;
-    ask(rt, b"no mask", 19, &traces::NO_MASK)?;
-    ask(rt, b"no mask", 20, &traces::NO_MASK)?;
-    ask(rt, b"no mask", 30, &traces::NO_MASK)?;
-    carry(rt, b"no mask", &traces::NO_MASK)?;
-    ask(rt, b"$BF3B above 127", 0, &traces::FAR_SELECT)?;
-    ask(rt, b"two are bad", 4, &traces::TWO_BAD)?;
-    ask(rt, b"two are bad", 5, &traces::TWO_BAD)
+    ask_lines(rt, "no register", &[19, 20, 30, 255], &traces::NO_REGISTER)?;
+    carry(rt, "no register", &traces::NO_REGISTER)?;
+    ask_lines(rt, "no mask", &[19, 20, 30], &traces::NO_MASK)?;
+    carry(rt, "no mask", &traces::NO_MASK)?;
+    ask(rt, "$BF3B above 127", 0, &traces::FAR_SELECT)?;
+    ask_lines(rt, "two are bad", &[4, 5], &traces::TWO_BAD)
 }
 
 // Lines 10 to 19 are refused for their state, and line 20 draws again.
-fn print_state(rt: &impl Print, label: &[u8], trace: &[u8]) -> io::Result<()> {
-    ask(rt, label, 9, trace)?;
-    ask(rt, label, 10, trace)?;
-    ask(rt, label, 19, trace)?;
-    ask(rt, label, 20, trace)?;
+fn print_state(rt: &impl Print, label: &str, trace: &[u8]) -> io::Result<()> {
+    ask_lines(rt, label, &[9, 10, 19, 20], trace)?;
     carry(rt, label, trace)
 }
 
 fn print_states(rt: &impl Print) -> io::Result<()> {
-    print_state(rt, b"LoRes with tiles", &traces::LORES_WITH_TILES)?;
-    print_state(rt, b"ULANext with ULAplus", &traces::NEXT_WITH_PLUS)?;
-    print_state(rt, b"no mode", &traces::NO_MODE)?;
-    print_state(rt, b"far offset", &traces::FAR_OFFSET)
+    print_state(rt, "LoRes with tiles", &traces::LORES_WITH_TILES)?;
+    print_state(rt, "ULANext with ULAplus", &traces::NEXT_WITH_PLUS)?;
+    print_state(rt, "no mode", &traces::NO_MODE)?;
+    print_state(rt, "far offset", &traces::FAR_OFFSET)
 }
 
-fn print_whole(rt: &impl Print, label: &[u8], trace: &[u8]) -> io::Result<()> {
+fn print_whole(rt: &impl Print, label: &str, trace: &[u8]) -> io::Result<()> {
     ask(rt, label, 0, trace)?;
     carry(rt, label, trace)
 }
 
 fn print_bad(rt: &impl Print) -> io::Result<()> {
-    print_whole(rt, b"two bytes", &traces::TWO_BYTES)?;
-    print_whole(rt, b"another number", &traces::OTHER_NUMBER)?;
-    print_whole(rt, b"version 2", &traces::VERSION_2)?;
-    print_whole(rt, b"a cut entry", &traces::CUT)?;
-    print_whole(rt, b"kind 2", &traces::KIND_2)?;
-    print_whole(rt, b"port 4", &traces::PORT_4)?;
-    print_whole(rt, b"lines 6, 5", &traces::FALLING)
+    print_whole(rt, "two bytes", &traces::TWO_BYTES)?;
+    print_whole(rt, "another number", &traces::OTHER_NUMBER)?;
+    print_whole(rt, "version 2", &traces::VERSION_2)?;
+    print_whole(rt, "a cut entry", &traces::CUT)?;
+    print_whole(rt, "kind 2", &traces::KIND_2)?;
+    print_whole(rt, "port 4", &traces::PORT_4)?;
+    print_whole(rt, "lines 6, 5", &traces::FALLING)
 }
 
 fn print_first(rt: &impl Print) -> io::Result<()> {
-    print_whole(rt, b"25 before 26", &traces::BOTH)?;
-    ask(rt, b"26 before 9", 255, &traces::FALLING_BAD)?;
-    ask(rt, b"1 before 25", 256, &traces::TWO_BYTES)?;
-    ask_unlawful(rt, b"4 before 25", 0, &traces::TWO_BYTES)?;
-    carry_unlawful(rt, b"4 before 25", &traces::TWO_BYTES)?;
-    ask_unlawful(rt, b"4 before 9", 20, &traces::NO_REGISTER)?;
-    ask(rt, b"9 before 6", 10, &traces::BAD_AFTER_TILES)
+    print_whole(rt, "25 before 26", &traces::BOTH)?;
+    ask(rt, "26 before 9", 255, &traces::FALLING_BAD)?;
+    ask(rt, "1 before 25", 256, &traces::TWO_BYTES)?;
+    ask_unlawful(rt, "4 before 25", 0, &traces::TWO_BYTES)?;
+    carry_unlawful(rt, "4 before 25", &traces::TWO_BYTES)?;
+    ask_unlawful(rt, "4 before 9", 20, &traces::NO_REGISTER)?;
+    ask(rt, "9 before 6", 10, &traces::BAD_AFTER_TILES)
 }
 
 // The state is judged before its entries: one that would make it lawful is not tried.
 fn print_unlawful(rt: &impl Print) -> io::Result<()> {
-    ask_unlawful(rt, b"border 8, then 1", 0, &traces::ENDS)?;
-    ask_unlawful(rt, b"border 8, then 1", 255, &traces::ENDS)?;
-    carry_unlawful(rt, b"border 8, then 1", &traces::ENDS)
+    ask_unlawful(rt, "border 8, then 1", 0, &traces::ENDS)?;
+    ask_unlawful(rt, "border 8, then 1", 255, &traces::ENDS)?;
+    carry_unlawful(rt, "border 8, then 1", &traces::ENDS)
 }
 
 fn main(rt: HostRuntime) -> io::Result<()> {

@@ -1,5 +1,5 @@
 -- Reading: the part of the file that is lent back, the registers filled from it, and the exits. `found` is the file's form as the code
--- has it, r the reply and n its number.
+-- has it, r the reply and n whether it is done.
 use Prim.Native.Nat.{ℕ, ◌-◌, ◌≤◌}
 use mathlib.Core.Path.{◌≡◌, refl, sym, ap, ◌∙◌}
 use mathlib.Core.List.{List, [], ◌∷◌}
@@ -11,8 +11,8 @@ use Rattle.lists.specs.Placed.{placed}
 use Rattle.lists.proofs.Cond.{if-true, if-false}
 use Rattle.lists.proofs.Placed.{placed-none, placed-whole}
 use Rattle.reply.specs.declared.Reply.{Reply}
-use Rattle.reply.specs.Reply.{reply_number, is_done}
-use Rattle.reply.proofs.Done.{number-done, done-is, not_done}
+use Rattle.reply.specs.Reply.{is_done}
+use Rattle.reply.proofs.Done.{is-done}
 use Rattle.state.specs.declared.State.{State}
 use Rattle.state.specs.Answer.{done, refused}
 use Rattle.scr_forms.specs.declared.files.Shape.{Shape}
@@ -71,30 +71,30 @@ module _ (s : State) (file : List ℕ) (found : Shape) (e : found ≡ shape_of f
 
 -- ---- the exits, whatever reply the state has
 
-module _ (state : Reply) (bank file : List ℕ) (found : Shape) (r : Reply) (n : ℕ) (ef : found ≡ shape_of file)
-    (er : r ≡ read_judged state (length bank) found.mode) (en : n ≡ reply_number r) where
+module _ (state : Reply) (bank file : List ℕ) (found : Shape) (r : Reply) (n : Bool) (ef : found ≡ shape_of file)
+    (er : r ≡ read_judged state (length bank) found.mode) (en : n ≡ is_done r) where
   abbrev judged : Reply
   judged = read_judged state (length bank) (shape_of file).mode
 
   pub told : r ≡ judged
   told = er ∙ ap (λ (x : Shape). read_judged state (length bank) x.mode) ef
 
-  pub accepted : n ≡ 0 → Readable state (length bank) found.mode
-  accepted z = readable state (length bank) found.mode (sym er ∙ number-done r (sym en ∙ z))
+  pub accepted : n ≡ true → Readable state (length bank) found.mode
+  accepted z = readable state (length bank) found.mode (sym er ∙ is-done r (sym en ∙ z))
 
-  pub parts-there : n ≡ 0 → sizes (form_of found.mode).parts ≤ length file
+  pub parts-there : n ≡ true → sizes (form_of found.mode).parts ≤ length file
   parts-there z = omega (arith, enough file found ef (accepted z).formed)
 
-  pub told-done : n ≡ 0 → is_done judged ≡ true
-  told-done z = sym (ap is_done told) ∙ done-is n r en z
+  pub told-done : n ≡ true → is_done judged ≡ true
+  told-done z = sym (ap is_done told) ∙ sym en ∙ z
 
-  pub told-not : (n ≡ 0 → ⊥) → is_done judged ≡ false
-  told-not z = sym (ap is_done told) ∙ not_done n r en z
+  pub told-not : (n ≡ false) → is_done judged ≡ false
+  told-not z = sym (ap is_done told) ∙ sym en ∙ z
 
-  pub bank-read : n ≡ 0 → (b : List ℕ) → b ≡ filled (form_of found.mode).parts bank file → b ≡ bank_after judged bank file
+  pub bank-read : n ≡ true → (b : List ℕ) → b ≡ filled (form_of found.mode).parts bank file → b ≡ bank_after judged bank file
   bank-read z b e = e ∙ ap (λ (x : Shape). filled (form_of x.mode).parts bank file) ef ∙ sym (if-true _ _ _ (told-done z))
 
-  pub bank-left : (n ≡ 0 → ⊥) → bank ≡ bank_after judged bank file
+  pub bank-left : (n ≡ false) → bank ≡ bank_after judged bank file
   bank-left z = sym (if-false _ _ _ (told-not z))
 
 -- the answer with its state

@@ -1,4 +1,4 @@
--- Writing: the pieces placed one after the other are the file, and the exits. n is the reply's number.
+-- Writing: the pieces placed one after the other are the file, and the exits. n is whether the reply is done.
 use Prim.Native.Nat.{ℕ, ◌+◌, ◌-◌, ◌≤◌}
 use mathlib.Core.Path.{◌≡◌, refl, sym, ap, ◌∙◌}
 use mathlib.Core.List.{List, [], ◌∷◌, ◌++◌}
@@ -10,8 +10,8 @@ use Rattle.lists.specs.Placed.{placed}
 use Rattle.lists.proofs.Cond.{if-true, if-false}
 use Rattle.lists.proofs.Placed.{placed-after}
 use Rattle.reply.specs.declared.Reply.{Reply}
-use Rattle.reply.specs.Reply.{reply_number, is_done}
-use Rattle.reply.proofs.Done.{is-done, done-is, not_done}
+use Rattle.reply.specs.Reply.{is_done}
+use Rattle.reply.proofs.Done.{is-done}
 use Rattle.state.specs.declared.State.{State}
 use Rattle.ula_mode.specs.declared.modes.Mode.{Mode}
 use Rattle.scr_forms.specs.Forms.{form_of, sizes, bytes_in}
@@ -63,21 +63,21 @@ module _ (s : State) (bank t : List ℕ) (m : Mode) (at : ℕ) (e : m ≡ mode_i
   length-told n h =
       h ∙ ap (λ (k : ℕ). k + port_size m + colours_size s.ports.plus) a ∙ ap (λ (k : Mode). length_of k s.ports.plus) e
 
--- ---- the exits, whatever the reply r, whose number is n
+-- ---- the exits, whatever the reply r; n is whether it is done
 
-module _ (r : Reply) (s : State) (bank file : List ℕ) (n : ℕ) (en : n ≡ reply_number r) where
+module _ (r : Reply) (s : State) (bank file : List ℕ) (n : Bool) (en : n ≡ is_done r) where
   answered : (k : ℕ) → k ≡ cond (is_done r) (length_of (mode_in s) s.ports.plus) 0 → ◌≡◌ {A = Written} (record { reply = r; length = k }) (written_answer r s)
   answered k e = rw e
 
-  pub written : n ≡ 0 → (k : ℕ) (t : List ℕ) → k ≡ length_of (mode_in s) s.ports.plus → t ≡ placed file 0 (file_of s bank)
+  pub written : n ≡ true → (k : ℕ) (t : List ℕ) → k ≡ length_of (mode_in s) s.ports.plus → t ≡ placed file 0 (file_of s bank)
       → (◌≡◌ {A = Written} (record { reply = r; length = k }) (written_answer r s)) × (t ≡ file_after r s bank file)
   written z k t e f =
-      let d = done-is n r en z in
+      let d = sym en ∙ z in
       (answered k (e ∙ sym (if-true _ _ _ d)), f ∙ sym (if-true _ _ _ d))
 
-  pub unwritten : (n ≡ 0 → ⊥) → (◌≡◌ {A = Written} (record { reply = r; length = 0 }) (written_answer r s)) × (file ≡ file_after r s bank file)
+  pub unwritten : n ≡ false → (◌≡◌ {A = Written} (record { reply = r; length = 0 }) (written_answer r s)) × (file ≡ file_after r s bank file)
   unwritten z =
-      let d = not_done n r en z in
+      let d = sym en ∙ z in
       (answered 0 (sym (if-false _ _ _ d)), sym (if-false _ _ _ d))
 
 -- the lengths that a reply was judged by, whatever reply the state has

@@ -5,7 +5,7 @@ ghost use Rattle.scr_forms.specs.Forms.{has_form};
 ghost use Rattle.scr_forms.specs.Files.{shape_of, colours_size};
 ghost use Rattle.scr.specs.Reads.{read_reply, state_read, read_answer, bank_after, colours_after, colours_place};
 
-use reply::{Reply, number};
+use reply::Reply;
 use scr_forms::{Shape, colours_size, port_in, shape_of};
 use scr_parts::fill;
 use scr_replies::read_reply;
@@ -41,7 +41,7 @@ pub fn read_scr(s: State, bank: &mut [u8], file: &[u8]) -> Answer
     let found = shape_of(file);
     let mode = found.mode;
     let r = read_reply(lawful_reply(s), bank.len(), mode);
-    if number(r) == 0 {
+    if r.is_done() {
         fill(bank, mode, file);
         let state = state_read(s, found, file);
         Answer {
@@ -60,7 +60,6 @@ pub fn colours<'a>(s: State, bank: &[u8], file: &'a [u8]) -> &'a [u8]
 {
     let found = shape_of(file);
     let mode = found.mode;
-    let r = read_reply(lawful_reply(s), bank.len(), mode);
-    let done = number(r) == 0;
+    let done = read_reply(lawful_reply(s), bank.len(), mode).is_done();
     part(done & found.colours, file)
 }

@@ -8,7 +8,7 @@ ghost use Rattle.scr_replies.specs.Judged.{file_length};
 ghost use Rattle.scr.specs.Writes.{mode_in, write_reply, file_of, written_answer, file_after};
 
 use lists::put;
-use reply::{Reply, number};
+use reply::Reply;
 use scr_forms::{colours_size, row_of};
 use scr_parts::put_parts;
 use scr_replies::write_reply;
@@ -54,7 +54,7 @@ pub fn write_judged(r: Reply, s: State, bank: &[u8], file: &mut [u8]) -> Written
     requires { is_done r ≡ true → (length bank.now ≡ 16384) × (length file.old ≡ file_length) }
     ensures { (result ≡ written_answer r s) × (file.new ≡ file_after r s bank.now file.old) }
 {
-    if number(r) == 0 {
+    if r.is_done() {
         let length = put_screen(s, bank, file);
         Written { reply: r, length }
     } else {

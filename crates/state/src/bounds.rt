@@ -52,10 +52,8 @@ fn all_colours(p: &[u16]) -> bool
     ensures { result ≡ all_colours p.now }
 {
     let mut ok = true;
-    let mut i = 0;
-    while i < p.len() {
-        ok = ok & (p[i] <= 511);
-        i += 1;
+    for colour in p {
+        ok = ok & (*colour <= 511);
     }
     ok
 }

@@ -2,7 +2,6 @@
 ghost use Rattle.std.specs.Prelude.{◌≡◌, ◌+◌, ◌*◌, ◌<◌, ◌≤◌};
 ghost use Rattle.state_bits.specs.Bits.{timex_on, lores_on, layer_order, next_on, ula_second_shown, ula_on, stencil_set, tilemap_on, columns80, one_byte_entries, tile_second_shown, columns_of, width_of, x_offset, index_stays};
 
-use lists::usize_of;
 use state::{Palette, Tiles, Ula};
 
 pub fn timex_on(u: Ula) -> bool
@@ -88,7 +87,7 @@ pub fn width_of(columns80: bool) -> usize
 pub fn x_offset(t: Tiles) -> usize
     ensures { (result ≡ x_offset t) × (result < t.xhigh * 256 + 256) }
 {
-    usize_of(t.xhigh) * 256 + usize_of(t.xlow)
+    usize::from(t.xhigh) * 256 + usize::from(t.xlow)
 }
 
 pub fn index_stays(control: u8) -> bool

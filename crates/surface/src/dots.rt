@@ -2,13 +2,15 @@
 ghost use Rattle.std.specs.Prelude.{◌≡◌};
 ghost use Rattle.surface.specs.Dots.{shown, inside, top_dot};
 
-use lists::u16_of;
-
 // A ULA colour as a dot: transparent where its upper eight bits are those of $14.
 pub fn show(transparent: u8, c: u16) -> u16
     ensures { result ≡ shown transparent c }
 {
-    if c / 2 == u16_of(transparent) { 512 } else { c }
+    if c / 2 == u16::from(transparent) {
+        512
+    } else {
+        c
+    }
 }
 
 // Between two coordinates of a clip, both ends inside.

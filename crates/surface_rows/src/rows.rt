@@ -7,11 +7,7 @@ ghost use Rattle.surface_rows.specs.Rows.{first_dot, past_dot};
 pub fn paint(v: u16, out: &mut [u16])
     ensures { out.new ≡ tab (λ (k : ℕ). v) (length out.old) }
 {
-    let mut i = 0;
-    while i < out.len() {
-        out[i] = v;
-        i += 1;
-    }
+    out.fill(v);
 }
 
 // The first dot of pixel x in a row of n dots, or the row's end.

@@ -35,13 +35,14 @@ module _ (shades : List ℕ) (offset mark : ℕ) (pixel : ℕ → ℕ) (out : Li
   pub written-done : (k : ℕ) → Written shades offset mark pixel out k → 8 ≤ k → out ≡ tab (λ (j : ℕ). shade_from shades offset mark (pixel j)) 8
   written-done k h l = let e : k ≡ 8 = omega arith in tab-done _ _ 8 h.eight (rw e at h.right)
 
+-- an entry is read back where exactly one of x mirror and rotate is set
+abbrev pub turned_back : Entry → Bool
+turned_back e = not (eqb (turn_of e.high / 4 % 2) (turn_of e.high % 2))
+
 -- a rotated entry shows a column of its definition, any other a row
 module _ (t : TileSetup) (shades bank : List ℕ) (e : Entry) (y n b : ℕ) (en : n ≡ tile_number t e) (eb : b ≡ b_of (turn_of e.high) y) where
-  abbrev back : Bool
-  back = not (eqb (turn_of e.high / 4 % 2) (turn_of e.high % 2))
-
   pub turned-shades : (rotate : Bool) → eqb (turn_of e.high % 2) 1 ≡ rotate
-      → tab (λ (k : ℕ). shade_of shades e.high (pixel_at bank (t.definitions + n * 32) (cond rotate b (mirrored back k)) (cond rotate (mirrored back k) b))) 8
+      → tab (λ (k : ℕ). shade_of shades e.high (pixel_at bank (t.definitions + n * 32) (cond rotate b (mirrored (turned_back e) k)) (cond rotate (mirrored (turned_back e) k) b))) 8
       ≡ tab (λ (k : ℕ). shade_of shades e.high (entry_pixel t bank e k y)) 8
   unfolding entry_pixel column_of row_of
   turned-shades rotate r = tab-ext _ _ 8 (λ k g. rw (en, eb, r))

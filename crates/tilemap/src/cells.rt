@@ -2,8 +2,7 @@
 ghost use Rattle.std.specs.Prelude.{◌≡◌, ◌++◌, ℕ, ◌+◌, ◌*◌, ◌/◌, ◌%◌, ◌≤◌, ◌<◌, length, drop};
 ghost use Rattle.lists.specs.Tab.{tab};
 ghost use Rattle.state_bits.specs.Bits.{columns_of, width_of};
-ghost use Rattle.tilemap_turns.specs.Turns.{mirrored};
-ghost use Rattle.tilemap_rule.specs.Index.{pixel_at, entry_pixel};
+ghost use Rattle.tilemap_rule.specs.Index.{entry_pixel};
 ghost use Rattle.tilemap.specs.Shades.{shade_from, shade_of, shade_at, row_length, tile_row};
 ghost use Rattle.tilemap_entries.specs.Bounds.{SetupBounds, EntryBounds};
 ghost use Rattle.tilemap.specs.Bounds.{ShadeBounds};
@@ -21,46 +20,22 @@ fn shade_from(shades: &[u16; 256], offset: usize, mark: u16, pixel: usize) -> u1
     shades[i] + mark
 }
 
-// The eight shades of an entry that is not rotated: row b of its definition, read back where mirrored. This loop and the next are two, and
-// not one with a choice in it, so that each reads at fixed steps.
-fn straight(
-    bank: &[u8],
-    at: usize,
-    b: usize,
-    back: bool,
+// The eight shades of a cell whose pixels the closure reads, for the places 0 to 7. The closure is compiled into each use, so that each of
+// these loops reads at fixed steps.
+fn eight_shades<F: Fn(usize) -> usize>(
+    pixel: F,
     shades: &[u16; 256],
     offset: usize,
     mark: u16,
     out: &mut [u16],
 )
-    requires { (length bank.now ≡ 16384) × (at < 32768) × (b < 8) × (ShadeBounds shades.now) × (offset ≤ 240) × (mark ≤ 1024) × (length out.old ≡ 8) }
-    ensures { out.new ≡ tab (λ (k : ℕ). shade_from shades.now offset mark (pixel_at bank.now at (mirrored back k) b)) 8 }
+    requires { ((k : ℕ) → k < 8 → F.pre pixel k) × ((k p : ℕ) → k < 8 → F.post pixel k p → p < 16)
+        × (ShadeBounds shades.now) × (offset ≤ 240) × (mark ≤ 1024) × (length out.old ≡ 8) }
+    ensures { (f : ℕ → ℕ) → ((k p : ℕ) → k < 8 → F.post pixel k p → p ≡ f k)
+        → out.new ≡ tab (λ (k : ℕ). shade_from shades.now offset mark (f k)) 8 }
 {
-    for k in 0..8 {
-        let a = mirror(back, k);
-        let pixel = pixel_at(bank, at, Spot { column: a, row: b });
-        out[k] = shade_from(shades, offset, mark, pixel);
-    }
-}
-
-// The eight shades of a rotated entry: column b of its definition, read back where mirrored.
-fn rotated(
-    bank: &[u8],
-    at: usize,
-    b: usize,
-    back: bool,
-    shades: &[u16; 256],
-    offset: usize,
-    mark: u16,
-    out: &mut [u16],
-)
-    requires { (length bank.now ≡ 16384) × (at < 32768) × (b < 8) × (ShadeBounds shades.now) × (offset ≤ 240) × (mark ≤ 1024) × (length out.old ≡ 8) }
-    ensures { out.new ≡ tab (λ (k : ℕ). shade_from shades.now offset mark (pixel_at bank.now at b (mirrored back k))) 8 }
-{
-    for k in 0..8 {
-        let a = mirror(back, k);
-        let pixel = pixel_at(bank, at, Spot { column: b, row: a });
-        out[k] = shade_from(shades, offset, mark, pixel);
+    for (k, shade) in out.iter_mut().enumerate() {
+        *shade = shade_from(shades, offset, mark, pixel(k));
     }
 }
 
@@ -75,10 +50,31 @@ fn entry_shades(t: TileSetup, shades: &[u16; 256], bank: &[u8], e: Entry, y: usi
     let back = turn / 4 % 2 != turn % 2;
     let offset = e.high / 16 * 16;
     let mark = (e.high % 2 * 1024) as u16;
+    // A rotated entry shows a column of its definition, any other a row, read back where mirrored.
     if turn % 2 == 1 {
-        rotated(bank, at, b, back, shades, offset, mark, out);
+        let column = move |k| {
+            pixel_at(
+                bank,
+                at,
+                Spot {
+                    column: b,
+                    row: mirror(back, k),
+                },
+            )
+        };
+        eight_shades(column, shades, offset, mark, out);
     } else {
-        straight(bank, at, b, back, shades, offset, mark, out);
+        let row = move |k| {
+            pixel_at(
+                bank,
+                at,
+                Spot {
+                    column: mirror(back, k),
+                    row: b,
+                },
+            )
+        };
+        eight_shades(row, shades, offset, mark, out);
     }
 }
 
@@ -92,10 +88,11 @@ fn cell_shades(t: TileSetup, shades: &[u16; 256], bank: &[u8], j: usize, ty: usi
     entry_shades(t, shades, bank, e, ty % 8, out);
 }
 
-fn row_length(columns80: bool) -> usize
-    ensures { (result ≡ (columns_of columns80 + 1) * 8) × (result ≤ 648) × (result % 8 ≡ 0) }
+// A line that starts within a cell reaches into one cell more than it has columns.
+fn cells_of(columns80: bool) -> usize
+    ensures { (result ≡ columns_of columns80 + 1) × (result ≤ 81) }
 {
-    if columns80 { 648 } else { 328 }
+    if columns80 { 81 } else { 41 }
 }
 
 // The shades of a line's cells, one cell more than its columns; what lies after them stays. The shade at x stands at
@@ -105,11 +102,11 @@ pub fn tile_row(t: TileSetup, shades: &[u16; 256], bank: &[u8], l: LineNumber, o
     ensures { out.new ≡ tile_row t shades.now bank.now l.0 ++ drop (row_length t) out.old }
 {
     let ty = down_map(t, l.0);
-    let n = row_length(t.columns80);
-    let mut j = 0;
-    while j < n {
-        let e = j + 8;
-        cell_shades(t, shades, bank, j, ty, &mut out[j..e]);
-        j = e;
+    let cells = cells_of(t.columns80);
+    // By ranges and not by `chunks_exact_mut`: tried, and the proof did not close, since of what is written to a lent chunk only the length is
+    // known.
+    for i in 0..cells {
+        let j = i * 8;
+        cell_shades(t, shades, bank, j, ty, &mut out[j..j + 8]);
     }
 }

@@ -4,9 +4,8 @@ ghost use Rattle.state_bits.specs.Bits.{width_of};
 ghost use Rattle.tilemap_entries.specs.Entries.{ty_of, cell_of, fetched, entry_address, high_of, entry_at, tile_number};
 ghost use Rattle.tilemap_entries.specs.Bounds.{SetupBounds, EntryBounds};
 
-use lists::usize_of;
-
-// How a tilemap lies in its bank and on the surface.
+// How a tilemap lies in its bank and on the surface. Its bounds stand in contracts and not in a ghost field: definitions and claims speak of
+// setups with any numbers.
 #[derive(Clone, Copy)]
 pub struct TileSetup {
     // 80 columns, else 40
@@ -37,7 +36,7 @@ pub fn fetch(bank: &[u8], at: usize) -> usize
     requires { length bank.now ≡ 16384 }
     ensures { (result ≡ fetched bank.now at) × (result < 256) }
 {
-    usize_of(bank[at % 16384])
+    usize::from(bank[at % 16384])
 }
 
 // A place across the map, which goes round after its last column.

@@ -3,7 +3,6 @@ ghost use Rattle.std.specs.Prelude.{◌≡◌, ◌+◌, ◌*◌, ◌≤◌, ◌<
 ghost use Rattle.tilemap_setup.specs.Setup.{setup_of, first_pixel, window_of};
 ghost use Rattle.tilemap_entries.specs.Bounds.{SetupBounds};
 
-use lists::usize_of;
 use state::Tiles;
 use surface::LineNumber;
 use tilemap_entries::TileSetup;
@@ -23,7 +22,7 @@ pub struct Window {
 fn first_pixel(p: PairCount) -> usize
     ensures { (result ≡ first_pixel p) × (result < 512) }
 {
-    usize_of(p.0) * 2
+    usize::from(p.0) * 2
 }
 
 pub fn window_of(t: Tiles, clip: &[u8; 4], l: LineNumber) -> Window
@@ -31,8 +30,8 @@ pub fn window_of(t: Tiles, clip: &[u8; 4], l: LineNumber) -> Window
 {
     let left = first_pixel(PairCount(clip[0]));
     let right = first_pixel(PairCount(clip[1])) + 1;
-    let top = usize_of(clip[2]);
-    let bottom = usize_of(clip[3]);
+    let top = usize::from(clip[2]);
+    let bottom = usize::from(clip[3]);
     let on = state_bits::tilemap_on(t);
     let shown = surface::is_inside(l.0, top, bottom);
     Window {
@@ -47,7 +46,7 @@ fn address_of(v: u8) -> usize
     requires { v < 64 }
     ensures { (result ≡ v * 256) × (result < 16384) }
 {
-    usize_of(v) * 256
+    usize::from(v) * 256
 }
 
 // The setup of a lawful state: its bounds are those of a lawful state's bytes.
@@ -57,11 +56,11 @@ pub fn setup_of(t: Tiles, on: bool) -> TileSetup
 {
     let columns80 = state_bits::columns80(t);
     let single = state_bits::one_byte_entries(t);
-    let attribute = usize_of(t.attribute);
+    let attribute = usize::from(t.attribute);
     let map = address_of(t.map);
     let definitions = address_of(t.definitions);
     let x = state_bits::x_offset(t);
-    let y = usize_of(t.y);
+    let y = usize::from(t.y);
     TileSetup {
         columns80,
         single,

@@ -1,7 +1,7 @@
 -- A lawful state stays lawful through every entry, so that a line of a run asks for nothing more. Every entry keeps it so, from the claim that
 -- writes do.
 use Prim.Native.Nat.{ℕ, ◌+◌, ◌*◌, ◌<◌}
-use mathlib.Core.Path.{◌≡◌, sym, ap, subst, ◌∙◌}
+use mathlib.Core.Path.{◌≡◌, sym, ap, ap₂, subst, ◌∙◌}
 use mathlib.Core.List.{List}
 use mathlib.Core.Bool.{true}
 use lib.Dec.{leb}
@@ -10,7 +10,8 @@ use Rattle.state.specs.declared.State.{State}
 use Rattle.state.specs.declared.Answer.{Answer}
 use Rattle.state.specs.Lawful.{lawful_state}
 use Rattle.state.specs.Typed.{Typed}
-use Rattle.register_parts.specs.Parts.{state_with}
+use Rattle.register_parts.specs.declared.Palettes.{Palettes}
+use Rattle.register_parts.specs.Parts.{palettes_of}
 use Rattle.register_answers.specs.Rows.{write_by}
 use Rattle.register_ports.specs.Ports.{port_writes}
 use Rattle.register_tables.specs.Tables.{register_writes}
@@ -45,18 +46,14 @@ after_kept s t L b k =
 
 -- ---- the run of a line
 
--- a run that has passed the entries as far as line L reaches is the run of line L
-pub run-after : (s : State) (t : List ℕ) (L n : ℕ) (b : Carried) (run : Run) → rising t ≡ true → b ≡ begun_with s → n ≡ reach t L
-    → run ≡ first t n (run_with b s.ulafirst s.ulasecond s.tilefirst s.tilesecond) → run ≡ after s t L
-run-after s t L n b run up begins e r =
-    r ∙ ap (λ (m : ℕ). first t m (run_with b s.ulafirst s.ulasecond s.tilefirst s.tilesecond)) e
-    ∙ ap (λ (x : Carried). first t (reach t L) (run_with x s.ulafirst s.ulasecond s.tilefirst s.tilesecond)) begins
-    ∙ sym (after-reach s t L up)
+-- a run over parts begins as one over the state
+pub begins : (s : State) (b : Carried) (p : Palettes) → b ≡ begun_with s → p ≡ palettes_of s → run_with b p ≡ begun s
+begins s b p e f = ap₂ run_with e f
 
--- what a run begins with is what it would begin with from its own state
-pub own-begun : (b : Carried) (s : State) → b ≡ begun_with s → b ≡ begun_with (state_with b.registers s.ulafirst s.ulasecond s.tilefirst s.tilesecond)
-own-begun b s e = e ∙ ap (λ (x : Carried). begun_with (state_with x.registers s.ulafirst s.ulasecond s.tilefirst s.tilesecond)) (sym e)
+-- a run that has passed the entries as far as line L reaches is the run of line L
+pub run_after : (s : State) (t : List ℕ) (L : ℕ) (run : Run) → rising t ≡ true → run ≡ first t (reach t L) (begun s) → run ≡ after s t L
+run_after s t L run up r = r ∙ sym (after-reach s t L up)
 
 -- and its state is lawful where the first was
-pub run-lawful : (s : State) (t : List ℕ) (L : ℕ) (run : Run) → Sound t → lawful_state s ≡ true → Typed s → run ≡ after s t L → lawful_state run.state ≡ true
-run-lawful s t L run ok h z e = ap (λ (r : Run). lawful_state r.state) e ∙ (after_kept s t L ok.bytes (h, z)).0
+pub run_lawful : (s : State) (t : List ℕ) (L : ℕ) (run : Run) → Sound t → lawful_state s ≡ true → Typed s → run ≡ after s t L → lawful_state run.state ≡ true
+run_lawful s t L run ok h z e = ap (λ (r : Run). lawful_state r.state) e ∙ (after_kept s t L ok.bytes (h, z)).0

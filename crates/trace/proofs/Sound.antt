@@ -12,7 +12,7 @@ use Rattle.lists.proofs.Cond.{left-true, right-true}
 use Rattle.reply.specs.declared.Reply.TheVariants.{Done, BadTrace, LinesFall}
 use Rattle.reply.proofs.Done.{test-met}
 use Rattle.trace_form.specs.Judged.{headed, all_known, rising, trace_reply}
-use Rattle.trace_form.proofs.Judged.{long-enough}
+use Rattle.trace_form.proofs.Judged.{long_enough}
 use Rattle.trace_runs.specs.Bounds.{Sound}
 
 pub sound : (t : List ℕ) → Bytes t → trace_reply t ≡ Done → Sound t
@@ -23,7 +23,7 @@ sound t b z =
     let u = left-true _ (eqb (get_or t 2 0) 1) (left-true _ _ w) in
     let n = eqb-true (get_or t 0 0 * 256 + get_or t 1 0) (length t - 2) (right-true (leb 3 (length t)) _ u) in
     record {
-      long = long-enough t w;
+      long = long_enough t w;
       short = omega (arith, n, b 0, b 1);
       rise = (test-met (rising t) Done LinesFall refl h.1).0;
       bytes = b;

@@ -8,13 +8,15 @@ ghost use Rattle.trace_runs.specs.Bounds.{Sound};
 ghost use Rattle.trace.specs.Lines.{run_traced, run_dots, traced_answer, traced_dots};
 
 use crate::lines::draw_run;
+use register_parts::palettes_of;
 use reply::Reply;
 use state::State;
 use surface::LineNumber;
 use trace_replies::asked_reply;
 use trace_runs::{after_line, begin};
 
-// What a line is answered: its reply, and the place of a refused entry, 0 with every other reply.
+// What a line is answered: its reply, and the place of a refused entry, 0 with every other reply. Not a `Result`: the C interface tells both
+// numbers of each line, done or not.
 #[derive(Clone, Copy)]
 pub struct Traced {
     pub reply: Reply,
@@ -34,30 +36,9 @@ fn draw_judged(
     ensures { (result ≡ run_traced (after s trace.now line.0))
         × (out.new ≡ run_dots (after s trace.now line.0) ula.now tile.now line out.old) }
 {
-    let mut ulafirst = s.ulafirst;
-    let mut ulasecond = s.ulasecond;
-    let mut tilefirst = s.tilefirst;
-    let mut tilesecond = s.tilesecond;
-    let run = after_line(
-        trace,
-        line.0,
-        begin(s),
-        &mut ulafirst,
-        &mut ulasecond,
-        &mut tilefirst,
-        &mut tilesecond,
-    );
-    let reply = draw_run(
-        run,
-        &ulafirst,
-        &ulasecond,
-        &tilefirst,
-        &tilesecond,
-        ula,
-        tile,
-        line,
-        out,
-    );
+    let mut p = palettes_of(s);
+    let run = after_line(trace, line.0, begin(s), &mut p);
+    let reply = draw_run(run, &p, ula, tile, line, out);
     Traced {
         reply,
         place: run.place,
@@ -80,7 +61,7 @@ pub fn draw_traced_as(
         × (out.new ≡ traced_dots own line ula.now tile.now out.old s trace.now) }
 {
     let r = asked_reply(line, ula.len(), tile.len(), out.len(), own, trace);
-    if reply::number(r) == 0 {
+    if r.is_done() {
         draw_judged(line, ula, tile, s, trace, out)
     } else {
         Traced { reply: r, place: 0 }

@@ -8,13 +8,15 @@ ghost use Rattle.trace_replies.specs.Replies.{whole_reply};
 ghost use Rattle.trace.specs.Carried.{carried_dots, carried_replies, carried_places};
 
 use crate::lines::draw_run;
+use register_parts::palettes_of;
 use reply::Reply;
 use state::State;
 use surface::LineNumber;
 use trace_replies::whole_reply;
-use trace_runs::{begin, is_due, try_next};
+use trace_runs::{begin, try_due};
 
-// Each turn tries the next entry or draws the next line, by the run carried on from the line before; so each entry is tried once.
+// The run is carried on from the line before, so each entry is tried once. By numbers and not by `iter_mut` over the three buffers: of what is
+// written to a lent chunk of dots only the length is known.
 fn draw_lines(
     ula: &[u8],
     tile: &[u8],
@@ -29,43 +31,16 @@ fn draw_lines(
     ensures { (dots.new ≡ carried_dots s trace.now ula.now tile.now dots.old)
         × (replies.new ≡ carried_replies s trace.now) × (places.new ≡ carried_places s trace.now) }
 {
-    let mut ulafirst = s.ulafirst;
-    let mut ulasecond = s.ulasecond;
-    let mut tilefirst = s.tilefirst;
-    let mut tilesecond = s.tilesecond;
+    let mut p = palettes_of(s);
     let mut run = begin(s);
     let mut count = 0;
-    let mut line = 0;
-    while line < 256 {
-        if is_due(trace, count, line) {
-            run = try_next(
-                trace,
-                count,
-                run,
-                &mut ulafirst,
-                &mut ulasecond,
-                &mut tilefirst,
-                &mut tilesecond,
-            );
-            count += 1;
-            continue;
-        }
+    for line in 0..256 {
+        run = try_due(trace, &mut count, line, run, &mut p);
         let a = line * 640;
         let e = a + 640;
-        let r = draw_run(
-            run,
-            &ulafirst,
-            &ulasecond,
-            &tilefirst,
-            &tilesecond,
-            ula,
-            tile,
-            LineNumber(line),
-            &mut dots[a..e],
-        );
-        replies[line] = reply::number(r);
+        let r = draw_run(run, &p, ula, tile, LineNumber(line), &mut dots[a..e]);
+        replies[line] = u8::from(r);
         places[line] = run.place;
-        line += 1;
     }
 }
 
@@ -96,7 +71,7 @@ pub fn draw_carried_as(
         own,
         trace,
     );
-    if reply::number(r) == 0 {
+    if r.is_done() {
         draw_lines(ula, tile, s, trace, dots, replies, places);
     }
     r

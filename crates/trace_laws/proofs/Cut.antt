@@ -15,7 +15,7 @@ use Rattle.reply.proofs.Done.{test-met}
 use Rattle.trace_form.specs.declared.entries.Entry.{Entry}
 use Rattle.trace_form.specs.Entries.{entry_count, entry_at, line_at}
 use Rattle.trace_form.specs.Judged.{headed, known, all_known, line_before, rising, trace_reply}
-use Rattle.trace_form.proofs.Judged.{long-enough}
+use Rattle.trace_form.proofs.Judged.{long_enough}
 use Rattle.trace_laws.specs.Cut.{cut}
 
 module _ (t : List ℕ) (n : ℕ) (long : 3 ≤ length t) (h : n ≤ entry_count t) where
@@ -81,6 +81,6 @@ unfolding trace_reply
 cut-done t n h z =
     let m = test-met (headed t && all_known t) (cond (rising t) Done LinesFall) BadTrace refl z in
     let w = left-true (headed t) (all_known t) m.0 in
-    let l = long-enough t w in
+    let l = long_enough t w in
     if-true (headed (cut t n) && all_known (cut t n)) _ _ (both (headed (cut t n)) (all_known (cut t n)) (cut-headed t n l h) (cut-known t n l h (right-true (headed t) (all_known t) m.0)))
     ∙ if-true (rising (cut t n)) _ _ (cut-rising t n l h (test-met (rising t) Done LinesFall refl m.1).0)

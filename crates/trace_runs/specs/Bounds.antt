@@ -4,15 +4,16 @@ use Rattle.lists.specs.Bytes.{Bytes}
 use Rattle.lists.specs.Search.{least}
 use Rattle.reply.specs.declared.Reply.TheVariants.{Done}
 use Rattle.state.specs.declared.State.{State}
+use Rattle.register_parts.specs.declared.Palettes.{Palettes}
 use Rattle.register_parts.specs.Parts.{registers_of, state_with}
 use Rattle.trace_form.specs.Entries.{entry_count, line_at}
 use Rattle.trace_form.specs.Judged.{rising}
 use Rattle.trace_runs.specs.declared.runs.Carried.{Carried}
 use Rattle.trace_runs.specs.Runs.{Run, through}
 
--- a run by what is carried of it and the four palettes
-abbrev pub run_with : Carried → List ℕ → List ℕ → List ℕ → List ℕ → Run
-run_with r a b c d = record { reply = r.reply; place = r.place; state = state_with r.registers a b c d }
+-- a run by what is carried of it and the palettes
+abbrev pub run_with : Carried → Palettes → Run
+run_with r p = record { reply = r.reply; place = r.place; state = state_with r.registers p }
 
 -- what is carried before any entry
 abbrev pub begun_with : State → Carried

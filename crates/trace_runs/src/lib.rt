@@ -4,4 +4,4 @@
 
 mod runs;
 
-pub use runs::{Carried, after_line, begin, is_due, try_next};
+pub use runs::{Carried, after_line, begin, is_due, try_due, try_next};

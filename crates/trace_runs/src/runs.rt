@@ -3,15 +3,16 @@ ghost use Rattle.std.specs.Prelude.{◌≡◌, cond, ◌≤◌, ◌<◌, length,
 ghost use Rattle.reply.specs.Reply.{is_done};
 ghost use Rattle.register_parts.specs.Parts.{state_with, answer_with};
 ghost use Rattle.trace_form.specs.Entries.{entry_count, entry_at};
-ghost use Rattle.trace_runs.specs.Runs.{port_number, applied, tried};
+ghost use Rattle.trace_runs.specs.Runs.{Run, port_number, applied, tried};
 ghost use Rattle.trace_runs.specs.Bounds.{run_with, begun_with, reach, first, Sound};
 
-use register_parts::{Registers, Written};
+use register_parts::{Palettes, Registers, Written};
 use reply::Reply;
 use state::State;
 use trace_form::{Entry, entry_at, entry_count};
 
-// What is carried from entry to entry besides the palettes: the reply and the place of a refused one, or done and 0, and the registers.
+// What is carried from entry to entry besides the palettes: the reply and the place of a refused one, or done and 0, and the registers. Not a
+// `Result`: a refused run still has its registers, and each line of a carried drawing tells reply and place.
 #[derive(Clone, Copy)]
 pub struct Carried {
     pub reply: Reply,
@@ -42,21 +43,12 @@ fn port_number(n: u8) -> u16
 }
 
 // An entry's write. The state was judged when the run began, and no write judges it again.
-fn apply(
-    g: Registers,
-    e: Entry,
-    ulafirst: &mut [u16; 256],
-    ulasecond: &mut [u16; 256],
-    tilefirst: &mut [u16; 256],
-    tilesecond: &mut [u16; 256],
-) -> Written
-    ensures { answer_with result ulafirst.new ulasecond.new tilefirst.new tilesecond.new
-        ≡ applied (state_with g ulafirst.old ulasecond.old tilefirst.old tilesecond.old) e }
+fn apply(g: Registers, e: Entry, p: &mut Palettes) -> Written
+    ensures { answer_with result p.new
+        ≡ applied (state_with g p.old) e }
 {
     if e.kind == 0 {
-        register_tables::write_apart(
-            g, e.number, e.value, ulafirst, ulasecond, tilefirst, tilesecond,
-        )
+        register_tables::write_apart(g, e.number, e.value, p)
     } else {
         register_ports::write_port_apart(g, port_number(e.number), e.value)
     }
@@ -66,26 +58,18 @@ fn apply(
 fn told_place(r: Reply, i: u16) -> u16
     ensures { result ≡ cond (is_done r) 0 i }
 {
-    if reply::number(r) == 0 { 0 } else { i }
+    if r.is_done() { 0 } else { i }
 }
 
 // Entry i, unless one before it was refused.
-fn try_entry(
-    e: Entry,
-    i: u16,
-    run: Carried,
-    ulafirst: &mut [u16; 256],
-    ulasecond: &mut [u16; 256],
-    tilefirst: &mut [u16; 256],
-    tilesecond: &mut [u16; 256],
-) -> Carried
-    ensures { run_with result ulafirst.new ulasecond.new tilefirst.new tilesecond.new
-        ≡ tried e i (run_with run ulafirst.old ulasecond.old tilefirst.old tilesecond.old) }
+fn try_entry(e: Entry, i: u16, run: Carried, p: &mut Palettes) -> Carried
+    ensures { run_with result p.new
+        ≡ tried e i (run_with run p.old) }
 {
     let before = run.reply;
-    if reply::number(before) == 0 {
+    if before.is_done() {
         let g = run.registers;
-        let w = apply(g, e, ulafirst, ulasecond, tilefirst, tilesecond);
+        let w = apply(g, e, p);
         let reply = w.reply;
         let registers = w.registers;
         let place = told_place(reply, i);
@@ -106,51 +90,48 @@ pub fn is_due(trace: &[u8], count: usize, line: usize) -> bool
 {
     if count < entry_count(trace) {
         let e = entry_at(trace, count);
-        lists::usize_of(e.line) <= line
+        usize::from(e.line) <= line
     } else {
         false
     }
 }
 
 // Entry i, which is due.
-pub fn try_next(
-    trace: &[u8],
-    i: usize,
-    run: Carried,
-    ulafirst: &mut [u16; 256],
-    ulasecond: &mut [u16; 256],
-    tilefirst: &mut [u16; 256],
-    tilesecond: &mut [u16; 256],
-) -> Carried
+pub fn try_next(trace: &[u8], i: usize, run: Carried, p: &mut Palettes) -> Carried
     requires { (length trace.now ≤ 65537) × (i < entry_count trace.now) }
-    ensures { run_with result ulafirst.new ulasecond.new tilefirst.new tilesecond.new
-        ≡ tried (entry_at trace.now i) i (run_with run ulafirst.old ulasecond.old tilefirst.old tilesecond.old) }
+    ensures { run_with result p.new
+        ≡ tried (entry_at trace.now i) i (run_with run p.old) }
 {
     let e = entry_at(trace, i);
-    try_entry(e, i as u16, run, ulafirst, ulasecond, tilefirst, tilesecond)
+    try_entry(e, i as u16, run, p)
+}
+
+// Tries the entries from `count` on that are stamped with the line or less, and moves `count` past them. Asks for a trace that is judged, and
+// for a place that no line before has passed over.
+pub fn try_due(
+    trace: &[u8],
+    count: &mut usize,
+    line: usize,
+    begun: Carried,
+    p: &mut Palettes,
+) -> Carried
+    requires { (Sound trace.now) × (count.old ≤ reach trace.now line) }
+    ensures { (count.new ≡ reach trace.now line)
+        × ((r : Run) → run_with begun p.old ≡ first trace.now count.old r → run_with result p.new ≡ first trace.now (reach trace.now line) r) }
+{
+    let mut run = begun;
+    while is_due(trace, *count, line) {
+        run = try_next(trace, *count, run, p);
+        *count += 1;
+    }
+    run
 }
 
 // The run after every entry stamped with the line or less. Asks for a trace that is judged.
-pub fn after_line(
-    trace: &[u8],
-    line: usize,
-    begun: Carried,
-    ulafirst: &mut [u16; 256],
-    ulasecond: &mut [u16; 256],
-    tilefirst: &mut [u16; 256],
-    tilesecond: &mut [u16; 256],
-) -> Carried
+pub fn after_line(trace: &[u8], line: usize, begun: Carried, p: &mut Palettes) -> Carried
     requires { Sound trace.now }
-    ensures { run_with result ulafirst.new ulasecond.new tilefirst.new tilesecond.new
-        ≡ first trace.now (reach trace.now line) (run_with begun ulafirst.old ulasecond.old tilefirst.old tilesecond.old) }
+    ensures { run_with result p.new ≡ first trace.now (reach trace.now line) (run_with begun p.old) }
 {
     let mut count = 0;
-    let mut run = begun;
-    while is_due(trace, count, line) {
-        run = try_next(
-            trace, count, run, ulafirst, ulasecond, tilefirst, tilesecond,
-        );
-        count += 1;
-    }
-    run
+    try_due(trace, &mut count, line, begun, p)
 }

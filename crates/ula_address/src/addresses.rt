@@ -12,12 +12,8 @@ pub fn bitmap_address(mode: Mode, y: usize, column: usize) -> usize
 {
     let at = byte_address(y, column);
     match mode {
-        Mode::Lores => at,
-        Mode::Standard => at,
         Mode::Second => at + 0x2000,
-        Mode::HighColour => at,
-        Mode::HighResolution => at,
-        Mode::Missing => at,
+        _ => at,
     }
 }
 
@@ -27,11 +23,8 @@ pub fn attribute_address(mode: Mode, y: usize, column: usize) -> usize
 {
     let at = cell_address(y, column);
     match mode {
-        Mode::Lores => at,
-        Mode::Standard => at,
         Mode::Second => at + 0x2000,
         Mode::HighColour => byte_address(y, column) + 0x2000,
-        Mode::HighResolution => at,
-        Mode::Missing => at,
+        _ => at,
     }
 }

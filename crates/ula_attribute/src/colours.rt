@@ -15,12 +15,12 @@ fn colour_at(k: Scheme, pal: &[u16; 256], plus: &[u8; 64], i: usize) -> u16
     ensures { result ≡ colour_at k pal.now plus.now i }
 {
     match k {
-        Scheme::Plain => pal[i],
-        Scheme::Next => pal[i],
+        Scheme::Plain | Scheme::Next => pal[i],
         Scheme::Plus => colour::plus_colour(plus[i]),
     }
 }
 
+#[tactic(auto, unfolding(crate::specs::Colours::paper_colour))]
 fn paper_colour(l: Colours, pal: &[u16; 256], plus: &[u8; 64], a: u8) -> u16
     requires { MaskBounds l }
     ensures { result ≡ paper_colour l pal.now plus.now (paper_index l.scheme l.mask a) }
@@ -41,6 +41,7 @@ pub struct Dots {
 }
 
 // Both colours are read once for all bits under the attribute.
+#[tactic(auto, unfolding(crate::specs::Colours::bit_dot, crate::specs::Colours::bit_colour, ula_index::specs::Index::bit_index, ula_index::specs::Index::ink_shown))]
 pub fn bit_dots(l: Colours, pal: &[u16; 256], plus: &[u8; 64], a: u8) -> Dots
     requires { MaskBounds l }
     ensures { (result.bit1 ≡ bit_dot l pal.now plus.now a 1) × (result.bit0 ≡ bit_dot l pal.now plus.now a 0) }
@@ -62,6 +63,7 @@ pub fn bit_dots(l: Colours, pal: &[u16; 256], plus: &[u8; 64], a: u8) -> Dots
     }
 }
 
+#[tactic(auto, unfolding(crate::specs::Colours::paper_colour))]
 fn border_colour(
     l: Colours,
     pal: &[u16; 256],
@@ -82,6 +84,7 @@ fn border_colour(
 }
 
 // The dot of the border; a is mode 6's attribute.
+#[tactic(auto, unfolding(crate::specs::Colours::border_dot))]
 pub fn border_dot(
     l: Colours,
     pal: &[u16; 256],

@@ -5,7 +5,6 @@ ghost use Rattle.ula_index.specs.Index.{paperless};
 ghost use Rattle.ula_index.specs.Bounds.{indices};
 ghost use Rattle.ula_border.specs.Border.{border_index, hires_border_index, border_number};
 
-use lists::usize_of;
 use ula_index::paper_index;
 use ula_scheme::Scheme;
 
@@ -13,7 +12,7 @@ pub fn border_index(k: Scheme, border: u8) -> usize
     requires { border ≤ 7 }
     ensures { (result ≡ border_index k border) × (result < indices k) }
 {
-    let b = usize_of(border);
+    let b = usize::from(border);
     match k {
         Scheme::Plain => 16 + b,
         Scheme::Next => 128 + b,
@@ -28,13 +27,13 @@ pub fn hires_border_index(k: Scheme, mask: u8, a: u8) -> usize
 {
     let i = paper_index(k, mask, a);
     match k {
-        Scheme::Plain => i,
         Scheme::Next => 128 + i % 8,
-        Scheme::Plus => i,
+        _ => i,
     }
 }
 
 // The border's index, in mode 6 the paper's; a is mode 6's attribute.
+#[tactic(auto, unfolding(crate::specs::Border::border_number))]
 pub fn border_number(k: Scheme, mask: u8, hires: bool, a: u8, border: u8) -> usize
     requires { (is_mask mask ≡ true) × (paperless k mask ≡ false) × (border ≤ 7) }
     ensures { (result ≡ border_number k mask hires a border) × (result < indices k) }

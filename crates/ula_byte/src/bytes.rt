@@ -3,8 +3,6 @@
 ghost use Rattle.std.specs.Prelude.{◌≡◌, ◌<◌};
 ghost use Rattle.ula_byte.specs.Bytes.{byte_address, cell_address, hires_address, hires_attribute, lores_address, bit_of};
 
-use lists::u16_of;
-
 // Column c of 32 of a row of 192.
 pub fn byte_address(y: usize, column: usize) -> usize
     requires { (y < 192) × (column < 32) }
@@ -38,6 +36,7 @@ pub fn hires_attribute(port: u8) -> u8
 }
 
 // LoRes: column c of 128 of a row of 96.
+#[tactic(auto, unfolding(crate::specs::Bytes::lores_address))]
 pub fn lores_address(row: usize, column: usize) -> usize
     requires { (row < 96) × (column < 128) }
     ensures { (result ≡ lores_address row column) × (result < 16384) }
@@ -50,5 +49,5 @@ pub fn lores_address(row: usize, column: usize) -> usize
 pub fn bit_of(b: u8, x: usize) -> u16
     ensures { result ≡ bit_of b x }
 {
-    (u16_of(b) >> (7 - x % 8)) % 2
+    (u16::from(b) >> (7 - x % 8)) % 2
 }

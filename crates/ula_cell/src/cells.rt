@@ -12,6 +12,7 @@ use ula_scheme::Colours;
 use ula_view::View;
 
 // A bit of a byte chooses between two dots.
+#[tactic(auto, unfolding(crate::specs::Rows::chosen_dot))]
 fn choose_dot(b: u8, x: usize, bit1: u16, bit0: u16) -> u16
     ensures { result ≡ chosen_dot b x bit1 bit0 }
 {
@@ -23,10 +24,8 @@ fn pixels(b: u8, bit1: u16, bit0: u16, out: &mut [u16])
     requires { length out.old ≡ 16 }
     ensures { out.new ≡ tab (λ (k : ℕ). chosen_dot b (k / 2) bit1 bit0) 16 }
 {
-    for j in 0..8 {
-        let v = choose_dot(b, j, bit1, bit0);
-        out[j * 2] = v;
-        out[j * 2 + 1] = v;
+    for (k, dot) in out.iter_mut().enumerate() {
+        *dot = choose_dot(b, k / 2, bit1, bit0);
     }
 }
 
@@ -42,9 +41,8 @@ fn dots(even: u8, odd: u8, bit1: u16, bit0: u16, out: &mut [u16])
     requires { length out.old ≡ 16 }
     ensures { out.new ≡ tab (λ (k : ℕ). chosen_dot (cond (ltb k 8) even odd) k bit1 bit0) 16 }
 {
-    for k in 0..16 {
-        let b = byte_of(k, even, odd);
-        out[k] = choose_dot(b, k, bit1, bit0);
+    for (k, dot) in out.iter_mut().enumerate() {
+        *dot = choose_dot(byte_of(k, even, odd), k, bit1, bit0);
     }
 }
 

@@ -8,7 +8,6 @@ ghost use Rattle.ula_cell.specs.Rows.{hires_chosen};
 ghost use Rattle.ula_display.specs.Display.{lores_dot, mode_dot, display_dot};
 ghost use Rattle.ula_display.specs.Rows.{lores_shade};
 
-use lists::usize_of;
 use ula_cell::{hires_cell, pixel_cell};
 use ula_scheme::Colours;
 use ula_view::View;
@@ -21,6 +20,7 @@ fn pixel_row(p: View, l: Colours, pal: &[u16; 256], plus: &[u8; 64], bank: &[u8]
     let row = p.row;
     let bits = ula_address::bitmap_address(mode, row, 0);
     let cells = ula_address::attribute_address(mode, row, 0);
+    // A cell is lent by its place: of the parts of `chunks_exact_mut` a proof knows no dot afterwards.
     for i in 0..32 {
         let a = i * 16;
         let e = a + 16;
@@ -32,6 +32,7 @@ fn hires_row(p: View, bit1: u16, bit0: u16, bank: &[u8], out: &mut [u16])
     requires { (ViewBounds p) × (length bank.now ≡ 16384) × (length out.old ≡ 512) }
     ensures { out.new ≡ tab (hires_chosen p bit1 bit0 bank.now) 512 }
 {
+    // Lent by their place, as the cells of `pixel_row`.
     for i in 0..32 {
         let a = i * 16;
         let e = a + 16;
@@ -44,10 +45,9 @@ fn lores_shades(row: usize, transparent: u8, pal: &[u16; 256], bank: &[u8], out:
     requires { (row < 96) × (length bank.now ≡ 16384) × (length out.old ≡ 128) }
     ensures { out.new ≡ tab (lores_shade row transparent pal.now bank.now) 128 }
 {
-    for c in 0..128 {
+    for (c, dot) in out.iter_mut().enumerate() {
         let at = ula_byte::lores_address(row, c);
-        let i = usize_of(bank[at]);
-        out[c] = surface::show(transparent, pal[i]);
+        *dot = surface::show(transparent, pal[usize::from(bank[at])]);
     }
 }
 
@@ -57,11 +57,8 @@ fn lores_row(p: View, l: Colours, pal: &[u16; 256], bank: &[u8], out: &mut [u16]
 {
     let mut shades = [0u16; 128];
     lores_shades(p.row / 2, l.transparent, pal, bank, &mut shades);
-    for x in 0..256 {
-        let c = ula_scroll::lores_column(x, p.offset);
-        let v = shades[c];
-        out[x * 2] = v;
-        out[x * 2 + 1] = v;
+    for (d, dot) in out.iter_mut().enumerate() {
+        *dot = shades[ula_scroll::lores_column(d / 2, p.offset)];
     }
 }
 
@@ -70,10 +67,10 @@ fn mode_row(p: View, l: Colours, pal: &[u16; 256], plus: &[u8; 64], bank: &[u8],
     ensures { out.new ≡ tab (mode_dot p l pal.now plus.now bank.now) 512 }
 {
     let mode = p.mode;
-    if ula_mode::is_lores(mode) {
+    if mode.is_lores() {
         lores_row(p, l, pal, bank, out);
     } else {
-        if ula_mode::is_hires(mode) {
+        if mode.is_hires() {
             let d = ula_attribute::bit_dots(l, pal, plus, p.attribute);
             hires_row(p, d.bit1, d.bit0, bank, out);
         } else {

@@ -4,17 +4,15 @@ ghost use Rattle.register_bounds.specs.Bounds.{is_mask};
 ghost use Rattle.ula_index.specs.Index.{ink_index, paper_index, paperless, swapped};
 ghost use Rattle.ula_index.specs.Bounds.{indices};
 
-use lists::usize_of;
 use ula_scheme::Scheme;
 
 pub fn ink_index(k: Scheme, mask: u8, a: u8) -> usize
     ensures { (result ≡ ink_index k mask a) × (result < indices k) }
 {
-    let w = usize_of(a);
-    let n = usize_of(a & mask);
+    let w = usize::from(a);
     match k {
         Scheme::Plain => w % 8 + 8 * (w / 64 % 2),
-        Scheme::Next => n,
+        Scheme::Next => usize::from(a & mask),
         Scheme::Plus => w / 64 * 16 + w % 8,
     }
 }
@@ -33,7 +31,7 @@ fn next_paper(mask: u8, a: u8) -> usize
     ensures { (result ≡ 128 + a / (mask + 1)) × (result < 256) }
 {
     let n = ink_width(mask);
-    128 + (usize_of(a) >> n)
+    128 + (usize::from(a) >> n)
 }
 
 // Where mask 255 has left no paper there is no index to ask for.
@@ -41,7 +39,7 @@ pub fn paper_index(k: Scheme, mask: u8, a: u8) -> usize
     requires { (is_mask mask ≡ true) × (paperless k mask ≡ false) }
     ensures { (result ≡ paper_index k mask a) × (result < indices k) }
 {
-    let w = usize_of(a);
+    let w = usize::from(a);
     match k {
         Scheme::Plain => 16 + w / 8 % 8 + 8 * (w / 64 % 2),
         Scheme::Next => next_paper(mask, a),
@@ -52,20 +50,12 @@ pub fn paper_index(k: Scheme, mask: u8, a: u8) -> usize
 pub fn is_paperless(k: Scheme, mask: u8) -> bool
     ensures { result ≡ paperless k mask }
 {
-    match k {
-        Scheme::Plain => false,
-        Scheme::Next => mask == 255,
-        Scheme::Plus => false,
-    }
+    matches!(k, Scheme::Next) & (mask == 255)
 }
 
 // In this frame ink and paper of the attribute have changed places.
 pub fn is_swapped(k: Scheme, swap: bool, a: u8) -> bool
     ensures { result ≡ swapped k swap a }
 {
-    match k {
-        Scheme::Plain => (128 <= a) & swap,
-        Scheme::Next => false,
-        Scheme::Plus => false,
-    }
+    matches!(k, Scheme::Plain) & (128 <= a) & swap
 }

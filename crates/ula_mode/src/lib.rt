@@ -3,4 +3,4 @@
 
 mod modes;
 
-pub use modes::{Mode, is_hires, is_lores, is_missing, mode_of};
+pub use modes::{Mode, mode_of};

@@ -16,6 +16,7 @@ pub enum Mode {
 }
 
 // The port's low three bits pick the address rule, or the refusal.
+#[tactic(auto, unfolding(crate::specs::Modes::timex_mode))]
 fn timex_mode(port: u8) -> Mode
     ensures { result ≡ timex_mode (port % 8) }
 {
@@ -30,6 +31,7 @@ fn timex_mode(port: u8) -> Mode
 }
 
 // LoRes is judged first, then whether Timex modes are allowed.
+#[tactic(auto, unfolding(crate::specs::Modes::mode_of))]
 pub fn mode_of(u: Ula, ports: Ports) -> Mode
     ensures { result ≡ mode_of u ports }
 {
@@ -43,42 +45,23 @@ pub fn mode_of(u: Ula, ports: Ports) -> Mode
     }
 }
 
-pub fn is_lores(mode: Mode) -> bool
-    ensures { result ≡ is_lores mode }
-{
-    match mode {
-        Mode::Lores => true,
-        Mode::Standard => false,
-        Mode::Second => false,
-        Mode::HighColour => false,
-        Mode::HighResolution => false,
-        Mode::Missing => false,
+impl Mode {
+    pub fn is_lores(self) -> bool
+        ensures { result ≡ is_lores self }
+    {
+        matches!(self, Mode::Lores)
     }
-}
 
-// Mode 6, which shows 512 dots and not 256 pixels.
-pub fn is_hires(mode: Mode) -> bool
-    ensures { result ≡ is_hires mode }
-{
-    match mode {
-        Mode::Lores => false,
-        Mode::Standard => false,
-        Mode::Second => false,
-        Mode::HighColour => false,
-        Mode::HighResolution => true,
-        Mode::Missing => false,
+    // Mode 6, which shows 512 dots and not 256 pixels.
+    pub fn is_hires(self) -> bool
+        ensures { result ≡ is_hires self }
+    {
+        matches!(self, Mode::HighResolution)
     }
-}
 
-pub fn is_missing(mode: Mode) -> bool
-    ensures { result ≡ is_missing mode }
-{
-    match mode {
-        Mode::Lores => false,
-        Mode::Standard => false,
-        Mode::Second => false,
-        Mode::HighColour => false,
-        Mode::HighResolution => false,
-        Mode::Missing => true,
+    pub fn is_missing(self) -> bool
+        ensures { result ≡ is_missing self }
+    {
+        matches!(self, Mode::Missing)
     }
 }

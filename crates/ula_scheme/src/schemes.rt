@@ -26,6 +26,7 @@ pub struct Colours {
     pub transparent: u8,
 }
 
+#[tactic(auto, unfolding(crate::specs::Schemes::scheme_of))]
 fn scheme_of(p: Palette, ports: Ports) -> Scheme
     ensures { result ≡ scheme_of p ports }
 {
@@ -40,6 +41,7 @@ fn scheme_of(p: Palette, ports: Ports) -> Scheme
 }
 
 // Asks for a mask, as a lawful state has one.
+#[tactic(auto, unfolding(crate::specs::Schemes::colours_of))]
 pub fn colours_of(u: Ula, p: Palette, ports: Ports, frame: u8) -> Colours
     requires { is_mask p.mask ≡ true }
     ensures { (result ≡ colours_of u p ports frame) × (MaskBounds result) }

@@ -1,11 +1,10 @@
 // How far the display is moved.
 ghost use Rattle.std.specs.Prelude.{◌≡◌, ◌<◌};
-ghost use Rattle.ula_scroll.specs.Scrolls.{ula_scroll, lores_scroll, scroll_of, line_read};
+ghost use Rattle.ula_scroll.specs.Scrolls.{scroll_of, line_read};
 ghost use Rattle.ula_scroll.specs.Bounds.{ScrollBounds};
 
-use lists::usize_of;
 use state::Ula;
-use ula_mode::{Mode, is_lores};
+use ula_mode::Mode;
 
 // Pixels to the left and lines up.
 #[derive(Clone, Copy)]
@@ -14,33 +13,19 @@ pub struct Scroll {
     pub y: usize,
 }
 
-// The scroll of the ULA and its Timex modes: $26 and $27.
-fn ula_scroll(u: Ula) -> Scroll
-    ensures { (result ≡ ula_scroll u) × (ScrollBounds result) }
-{
-    Scroll {
-        x: usize_of(u.x),
-        y: usize_of(u.y),
-    }
-}
-
-// The scroll of LoRes: $32 and $33.
-fn lores_scroll(u: Ula) -> Scroll
-    ensures { (result ≡ lores_scroll u) × (ScrollBounds result) }
-{
-    Scroll {
-        x: usize_of(u.loresx),
-        y: usize_of(u.loresy),
-    }
-}
-
+// LoRes has a scroll of its own, $32 and $33; the other modes have $26 and $27.
+#[tactic(auto, unfolding(crate::specs::Scrolls::scroll_of))]
 pub fn scroll_of(mode: Mode, u: Ula) -> Scroll
     ensures { (result ≡ scroll_of mode u) × (ScrollBounds result) }
 {
-    if is_lores(mode) {
-        lores_scroll(u)
+    let (x, y) = if mode.is_lores() {
+        (u.loresx, u.loresy)
     } else {
-        ula_scroll(u)
+        (u.x, u.y)
+    };
+    Scroll {
+        x: usize::from(x),
+        y: usize::from(y),
     }
 }
 

@@ -7,7 +7,6 @@ ghost use Rattle.ula_view.specs.Views.{view_of, border_of, ula_line};
 ghost use Rattle.ula_view.specs.Bounds.{ViewBounds, UlaLineBounds, shown_state};
 ghost use Rattle.ula_scheme.specs.Bounds.{MaskBounds};
 
-use lists::usize_of;
 use state::{Palette, Ports, Ula};
 use surface::LineNumber;
 use ula_mode::Mode;
@@ -48,6 +47,7 @@ pub fn ula_palette<'a>(p: Palette, first: &'a [u16; 256], second: &'a [u16; 256]
 }
 
 // Line y of the display.
+#[tactic(auto, unfolding(crate::specs::Views::view_of))]
 fn view_of(u: Ula, ports: Ports, clip: &[u8; 4], y: usize) -> View
     requires { y < 256 }
     ensures { (result ≡ view_of u ports clip.now y) × (ViewBounds result) }
@@ -56,11 +56,11 @@ fn view_of(u: Ula, ports: Ports, clip: &[u8; 4], y: usize) -> View
     let scroll = ula_scroll::scroll_of(mode, u);
     let row = ula_scroll::scrolled_line(y, scroll.y);
     let attribute = ula_byte::hires_attribute(ports.timex);
-    let top = usize_of(clip[2]);
-    let bottom = usize_of(clip[3]);
+    let top = usize::from(clip[2]);
+    let bottom = usize::from(clip[3]);
     let visible = surface::is_inside(y, top, bottom);
-    let left = usize_of(clip[0]);
-    let right = usize_of(clip[1]);
+    let left = usize::from(clip[0]);
+    let right = usize::from(clip[1]);
     View {
         mode,
         row,
@@ -73,12 +73,13 @@ fn view_of(u: Ula, ports: Ports, clip: &[u8; 4], y: usize) -> View
 }
 
 // The dot of the border, in mode 6 the paper's.
+#[tactic(auto, unfolding(crate::specs::Views::border_of))]
 fn border_of(p: View, l: Colours, pal: &[u16; 256], plus: &[u8; 64], border: u8) -> u16
     requires { (MaskBounds l) × (border ≤ 7) }
     ensures { result ≡ border_of p l pal.now plus.now border }
 {
     let mode = p.mode;
-    let hires = ula_mode::is_hires(mode);
+    let hires = mode.is_hires();
     ula_attribute::border_dot(l, pal, plus, hires, p.attribute, border)
 }
 

@@ -1,32 +1,25 @@
 -- `fewest`: refused early, or answered by its count; demand 3 is that of the answer.
 use Rattle.reply.specs.Reply.{reply_number}
-use Rattle.pack_rule.proofs.Answers.{good, answer-early, answer-judged, demanded}
-use Rattle.packer.proofs.Answers.{answered-same}
+use Rattle.pack_rule.proofs.Answers.{good}
+use Rattle.packer.proofs.Answers.{early-fewest, counts-fewest}
 use native.Mathlib.Omega.{arith}
-use mathlib.Core.Path.{sym, ap, ◌∙◌}
+use Rattle.std.specs.Prelude.{Err}
+use mathlib.Core.Path.{◌≡◌, ap}
 use borrow.Author.Rules.{rules}
 use Rattle.packer.proofs.fewest.Goals as goal
 
-pub returns-then-number-ne0 : goal.returns-then-number-ne0
-returns-then-number-ne0 c =
-    let p = c.args.picture.now in
-    let e = answer-early p 256 0 2560 8192 c.judge-early.result c.judge-early.ensures (λ e. c.if-number-ne0.true (c.number.ensures ∙ e)) in
-    record {
-      answer-is = e;
-      demand = rw e (demanded p 256 0 2560 8192 (λ i. omega (arith, c.type_inv.picture i)));
-    }
+pub returns-in_err-judge : goal.returns-in_err-judge
+returns-in_err-judge c =
+    let j = c.in_err-judge.ensures in
+    let e : c.from_residual.result ≡ Err c.in_err-judge.field-0.0 = search rules in
+    rw e (early-fewest c.args.picture.now (λ i. omega (arith, c.type_inv.picture i)) _ j.0 j.1)
 
-pub count-n-requires : goal.count-n-requires
-count-n-requires c =
-    let g = good _ 2560 8192 256 0 (ap reply_number (sym c.judge-early.ensures) ∙ sym c.number.ensures ∙ c.if-number-ne0.false) in
-    (g.pic-length, g.allowed-small)
+pub count-requires : goal.count-requires
+count-requires c =
+    let g = good _ 2560 8192 256 0 (ap reply_number c.in_ok-judge.ensures) in
+    (g.pic-length, omega arith)
 
 pub returns : goal.returns
 returns c =
-    let z = ap reply_number (sym c.judge-early.ensures) ∙ sym c.number.ensures ∙ c.if-number-ne0.false in
-    let p = c.args.picture.now in
-    let e = c.answer.ensures ∙ answered-same p 256 _ c.count-n.ensures ∙ answer-judged p 256 0 2560 8192 z in
-    record {
-      answer-is = e;
-      demand = rw e (demanded p 256 0 2560 8192 (λ i. omega (arith, c.type_inv.picture i)));
-    }
+    rw c.ok_or.ensures.value
+    (counts-fewest c.args.picture.now (λ i. omega (arith, c.type_inv.picture i)) c.in_ok-judge.ensures _ c.count.ensures)

@@ -4,4 +4,4 @@ use borrow.Author.Rules.{rules}
 use Rattle.register_tables.proofs.write_numbered.Goals as goal
 
 pub returns : goal.returns
-returns c = c.answer_on.ensures ∙ (rw c.registers_of-g.ensures at c.write_apart-w.ensures)
+returns c = rw (c.write_apart-w.ensures, c.registers_of-g.ensures, c.palettes_of-p.ensures) at c.answer_with.ensures

@@ -5,4 +5,4 @@ use borrow.Author.Rules.{rules}
 use Rattle.capi.proofs.changes.narephon_next_frame.Goals as goal
 
 pub returns : goal.returns
-returns c = let r = c.change_record.ensures in (c.number.ensures ∙ ap reply_number r.0, r.1)
+returns c = let r = c.change_record.ensures in (c.from.ensures ∙ ap reply_number r.0, r.1)

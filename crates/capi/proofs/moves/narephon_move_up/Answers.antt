@@ -16,8 +16,3 @@ overflow_cast-place c =
     let m = c.move_up-moved in
     let h : m.result.place ≤ 2152 = rw m.ensures.0 (move-place-small Version1 a.bytes.now (length a.target.now)) in
     omega arith
-
-pub returns : goal.returns
-returns c =
-    let m = c.move_up-moved in
-    (c.number.ensures ∙ ap (λ (x : Judgement). reply_number x.reply) m.ensures.0, m.ensures.1, ap (λ (x : Judgement). x.place) m.ensures.0)

@@ -17,8 +17,3 @@ overflow_cast-place c =
     let j = c.judge_record-judgement in
     let h : j.result.place ≤ 2152 = rw j.ensures (place-small (version_of (length b)) b) in
     omega arith
-
-pub returns : goal.returns
-returns c =
-    let j = c.judge_record-judgement in
-    (c.number.ensures ∙ ap (λ (x : Judgement). reply_number x.reply) j.ensures, ap (λ (x : Judgement). x.place) j.ensures)

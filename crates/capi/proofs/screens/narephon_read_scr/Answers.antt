@@ -15,8 +15,3 @@ overflow_cast-colours c =
     let w = c.read_scr_record-read in
     let h : w.result.colours ≤ 12353 = rw w.ensures.0 (place-small (lent_read_reply a.bytes.now a.bank.now a.file.now) a.file.now) in
     omega arith
-
-pub returns : goal.returns
-returns c =
-    let w = c.read_scr_record-read in
-    (c.number.ensures ∙ ap (λ (a : ScreenRead). reply_number a.reply) w.ensures.0, w.ensures.1, w.ensures.2, ap (λ (a : ScreenRead). a.colours) w.ensures.0)

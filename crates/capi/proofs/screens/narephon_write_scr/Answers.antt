@@ -16,8 +16,3 @@ overflow_cast-length c =
     let w = c.write_scr_record-written in
     let h : w.result.length ≤ 12353 = rw w.ensures.0 (length-small (lent_write_reply a.bytes.now a.bank.now a.file.now) (read_record a.bytes.now).state) in
     omega arith
-
-pub returns : goal.returns
-returns c =
-    let w = c.write_scr_record-written in
-    (c.number.ensures ∙ ap (λ (a : Written). reply_number a.reply) w.ensures.0, w.ensures.1, ap (λ (a : Written). a.length) w.ensures.0)

@@ -5,4 +5,4 @@ use borrow.Author.Rules.{rules}
 use Rattle.capi_pictures.proofs.pictures.narephon_draw_layers.Goals as goal
 
 pub returns : goal.returns
-returns c = let r = c.draw_layers_record-r.ensures in (c.number.ensures ∙ ap reply_number r.0, r.1)
+returns c = let r = c.draw_layers_record-r.ensures in (c.from.ensures ∙ ap reply_number r.0, r.1)

@@ -7,4 +7,4 @@ use Rattle.capi_trace.proofs.calls.narephon_draw_carried.Goals as goal
 pub returns : goal.returns
 returns c =
     let e = c.draw_carried_record-r.ensures in
-    (c.number.ensures ∙ ap reply_number e.0, rw e.0 at e.1, rw e.0 at e.2, rw e.0 at e.3)
+    (c.from.ensures ∙ ap reply_number e.0, rw e.0 at e.1, rw e.0 at e.2, rw e.0 at e.3)

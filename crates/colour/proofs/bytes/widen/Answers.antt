@@ -6,8 +6,8 @@ use Rattle.colour.proofs.bytes.widen.Goals as goal
 
 pub returns-then-w-eq0 : goal.returns-then-w-eq0
 unfolding widened
-returns-then-w-eq0 c = rw (← c.u16_of-w.ensures.0, eq-eqb _ _ c.if-w-eq0.true)
+returns-then-w-eq0 c = rw (← c.from-w.ensures, eq-eqb _ _ c.if-w-eq0.true)
 
 pub returns-else-w-eq0 : goal.returns-else-w-eq0
 unfolding widened
-returns-else-w-eq0 c = rw (← c.u16_of-w.ensures.0, ne_eqb _ _ c.if-w-eq0.false)
+returns-else-w-eq0 c = rw (← c.from-w.ensures, ne_eqb _ _ c.if-w-eq0.false)

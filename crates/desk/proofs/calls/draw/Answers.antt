@@ -8,12 +8,12 @@ use borrow.Author.Rules.{rules}
 use Rattle.desk.proofs.calls.draw.Goals as goal
 
 pub record_at-requires : goal.record_at-requires
-record_at-requires c = let s = at_place _ _ _ _ c.find.ensures c.in-At.is in (formed-long _ s.formed, s.below)
+record_at-requires c = let s = at_place _ _ _ _ c.find.ensures c.in-Ok.is in (formed-long _ s.formed, s.below)
 
-pub returns-in-Refused : goal.returns-in-Refused
-returns-in-Refused c =
-    let a = c.args in line-left _ _ _ (drawing a.line a.ula.now a.tile.now a.dots.now) refl (refused-place _ _ _ _ c.find.ensures c.in-Refused.is)
+pub returns-in-Err : goal.returns-in-Err
+returns-in-Err c =
+    let a = c.args in line-left _ _ _ (drawing a.line a.ula.now a.tile.now a.dots.now) refl (refused-place _ _ _ _ c.find.ensures c.in-Err.is)
 
-pub returns-in-At : goal.returns-in-At
-returns-in-At c =
-    let a = c.args in let s = at_place _ _ _ _ c.find.ensures c.in-At.is in exit-drawn _ _ _ s _ c.record_at.ensures a.line a.ula.now a.tile.now a.dots.now _ _ c.draw_record.ensures
+pub returns-in-Ok : goal.returns-in-Ok
+returns-in-Ok c =
+    let a = c.args in let s = at_place _ _ _ _ c.find.ensures c.in-Ok.is in exit-drawn _ _ _ s _ c.record_at.ensures a.line a.ula.now a.tile.now a.dots.now _ _ c.draw_record.ensures

@@ -8,11 +8,11 @@ use borrow.Author.Rules.{rules}
 use Rattle.desk.proofs.calls.query.Goals as goal
 
 pub record_at-requires : goal.record_at-requires
-record_at-requires c = let s = at_place _ _ _ _ c.find.ensures c.in-At.is in (formed-long _ s.formed, s.below)
+record_at-requires c = let s = at_place _ _ _ _ c.find.ensures c.in-Ok.is in (formed-long _ s.formed, s.below)
 
-pub returns-in-Refused : goal.returns-in-Refused
-returns-in-Refused c = let a = c.args in value_none _ _ _ (asking a.q) refl (refused-place _ _ _ _ c.find.ensures c.in-Refused.is)
+pub returns-in-Err : goal.returns-in-Err
+returns-in-Err c = let a = c.args in value_none _ _ _ (asking a.q) refl (refused-place _ _ _ _ c.find.ensures c.in-Err.is)
 
-pub returns-in-At : goal.returns-in-At
-returns-in-At c =
-    let s = at_place _ _ _ _ c.find.ensures c.in-At.is in exit-asked _ _ _ s _ c.record_at.ensures _ _ c.query_record.ensures
+pub returns-in-Ok : goal.returns-in-Ok
+returns-in-Ok c =
+    let s = at_place _ _ _ _ c.find.ensures c.in-Ok.is in exit-asked _ _ _ s _ c.record_at.ensures _ _ c.query_record.ensures

@@ -7,16 +7,16 @@ use borrow.Author.Rules.{rules}
 use Rattle.desk.proofs.seating.close.Goals as goal
 
 pub overflow_mul-at : goal.overflow_mul-at
-overflow_mul-at c = omega (arith, (at_place _ _ _ _ c.find.ensures c.in-At.is).below)
+overflow_mul-at c = omega (arith, (at_place _ _ _ _ c.find.ensures c.in-Ok.is).below)
 
 pub overflow_add-end : goal.overflow_add-end
-overflow_add-end c = omega (arith, (at_place _ _ _ _ c.find.ensures c.in-At.is).below)
+overflow_add-end c = omega (arith, (at_place _ _ _ _ c.find.ensures c.in-Ok.is).below)
 
 pub slice_bounds-zero-end : goal.slice_bounds-zero-end
-slice_bounds-zero-end c = let s = at_place _ _ _ _ c.find.ensures c.in-At.is in omega (arith, inside _ s.formed _ s.below)
+slice_bounds-zero-end c = let s = at_place _ _ _ _ c.find.ensures c.in-Ok.is in omega (arith, inside _ s.formed _ s.below)
 
-pub returns-in-Refused : goal.returns-in-Refused
-returns-in-Refused c = desk-left _ _ _ _ refl (refused-place _ _ _ _ c.find.ensures c.in-Refused.is)
+pub returns-in-Err : goal.returns-in-Err
+returns-in-Err c = desk-left _ _ _ _ refl (refused-place _ _ _ _ c.find.ensures c.in-Err.is)
 
-pub returns-in-At : goal.returns-in-At
-returns-in-At c = let s = at_place _ _ _ _ c.find.ensures c.in-At.is in exit-closed _ _ _ s _ c.desk-1.given.0 c.zero.ensures
+pub returns-in-Ok : goal.returns-in-Ok
+returns-in-Ok c = let s = at_place _ _ _ _ c.find.ensures c.in-Ok.is in exit-closed _ _ _ s _ c.desk-1.given.0 c.zero.ensures

@@ -15,6 +15,3 @@ use Rattle.desk_places.proofs.desks.well_formed.Given as goal
 
 abbrev pub invariant-loop-i : goal.invariant-loop-i
 invariant-loop-i l = (l.i ≤ seats) × (l.ok ≡ all (λ j. is_seat (seat_at l.desk j) && not (is_again l.desk j)) l.i)
-
-abbrev pub decreases-loop-i : goal.decreases-loop-i
-decreases-loop-i l = seats - l.i

@@ -1,4 +1,4 @@
--- The bytes before k are tested.
+-- The bytes so far are tested.
 use borrow.Author.Rules.{rules}
 use native.Mathlib.Omega.{arith}
 use Prim.Native.Nat.{◌≤◌, ◌-◌}
@@ -10,8 +10,5 @@ use Rattle.desk_seats.specs.Seats.{seat_length, is_free}
 use Rattle.lists.proofs.Loops.{all_none, all-next}
 use Rattle.desk_seats.proofs.seats.is_free.Given as goal
 
-abbrev pub invariant-loop-k : goal.invariant-loop-k
-invariant-loop-k l = (l.k ≤ seat_length) × (l.ok ≡ all (λ j. eqb (get_or l.seat j 0) 0) l.k)
-
-abbrev pub decreases-loop-k : goal.decreases-loop-k
-decreases-loop-k l = seat_length - l.k
+abbrev pub invariant-loop-byte : goal.invariant-loop-byte
+invariant-loop-byte l = l.ok ≡ all (λ j. eqb (get_or l.seat j 0) 0) l.byte-index

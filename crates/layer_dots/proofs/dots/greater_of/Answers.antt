@@ -8,7 +8,6 @@ use mir.Val.{to_z}
 use mir.Facts.{to_z_pos}
 use borrow.Author.Tests.{ltb-true, ltb-false}
 use Rattle.layer_dots.proofs.Over.{greater-left, greater-right}
-use borrow.Author.Rules.{rules}
 use Rattle.layer_dots.proofs.dots.greater_of.Goals as goal
 
 -- numbers below 32,768 are the signed numbers that they are cast to

@@ -5,7 +5,6 @@ use mathlib.Core.Bool.{Bool, cond}
 use lib.Dec.{eqb}
 use Rattle.lists.proofs.Cond.{either}
 use Rattle.layer_dots.specs.Laid.{three_over, level_over}
-use borrow.Author.Rules.{rules}
 use Rattle.layer_dots.proofs.dots.level_over.Goals as goal
 
 module _ (level fallback upper lower u first between second third : ℕ) (f : first ≡ cond (eqb level 2) u upper) (b : between ≡ cond (eqb level 1) u lower)

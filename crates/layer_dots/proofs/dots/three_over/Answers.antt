@@ -2,7 +2,6 @@
 use mathlib.Core.Path.{ap, ◌∙◌}
 use Prim.Native.Nat.{ℕ, ◌%◌}
 use Rattle.layer_dots.specs.Laid.{over, three_over}
-use borrow.Author.Rules.{rules}
 use Rattle.layer_dots.proofs.dots.three_over.Goals as goal
 
 pub returns : goal.returns

@@ -1,7 +1,6 @@
 -- The order and the fallback by the registers.
 use native.Mathlib.Omega.{arith}
 use Rattle.layer_dots.proofs.Layered.{by-registers, row_laid}
-use borrow.Author.Rules.{rules}
 use Rattle.layer_dots.proofs.lines.lay_layers.Goals as goal
 
 pub lay_order-requires : goal.lay_order-requires

@@ -1,6 +1,5 @@
 -- Bit 0 of the order says which lent line is upper.
 use Rattle.layer_dots.proofs.Layered.{sprites-bounds, layer2-bounds, sprites-laid, layer2-laid}
-use borrow.Author.Rules.{rules}
 use Rattle.layer_dots.proofs.lines.lay_order.Goals as goal
 
 pub lay_level-requires : goal.lay_level-requires

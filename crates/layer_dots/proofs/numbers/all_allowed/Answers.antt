@@ -1,10 +1,7 @@
 -- What is gathered of the first k places is 0 where all their numbers are allowed.
-use Prim.Native.Nat.{◌-◌, ◌≤◌}
 use mathlib.Core.Path.{◌≡◌, refl}
 use native.Mathlib.Omega.{arith}
-use lib.Dec.{eqb}
 use Rattle.lists.specs.Search.{all}
-use Rattle.layer_dots.specs.Numbers.{both_allowed}
 use Rattle.layer_dots.proofs.Allowed.{allowed-more}
 use borrow.Author.Rules.{rules}
 use Rattle.layer_dots.proofs.numbers.all_allowed.Goals as goal

@@ -1,6 +1,5 @@
 -- What is above 512 twice, with bit 9 the other way between.
 use Rattle.layer_dots.proofs.Allowed.{layer2-excess}
-use borrow.Author.Rules.{rules}
 use Rattle.layer_dots.proofs.numbers.layer2_excess.Goals as goal
 
 pub returns : goal.returns

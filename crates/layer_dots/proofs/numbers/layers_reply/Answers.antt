@@ -1,6 +1,5 @@
 -- The two pieces in their order.
 use Rattle.reply.proofs.Order.{last-hit, next-hit}
-use borrow.Author.Rules.{rules}
 use Rattle.layer_dots.proofs.numbers.layers_reply.Goals as goal
 
 pub returns : goal.returns

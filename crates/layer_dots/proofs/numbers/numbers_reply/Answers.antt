@@ -2,7 +2,6 @@
 use mathlib.Core.Path.{sym, ◌∙◌}
 use Rattle.lists.proofs.Cond.{if-true, if-false}
 use Rattle.layer_dots.specs.Numbers.{numbers_reply}
-use borrow.Author.Rules.{rules}
 use Rattle.layer_dots.proofs.numbers.numbers_reply.Goals as goal
 
 pub returns-then-all_allowed : goal.returns-then-all_allowed

@@ -5,7 +5,6 @@ use lib.Dec.{leb}
 use borrow.Author.Tests.{le-leb, lt-leb}
 use Rattle.lists.proofs.Cond.{if-true, if-false}
 use Rattle.layer_dots.specs.Numbers.{order_reply}
-use borrow.Author.Rules.{rules}
 use Rattle.layer_dots.proofs.numbers.order_reply.Goals as goal
 
 pub returns-then-layer_order-le5 : goal.returns-then-layer_order-le5

@@ -1,18 +1,10 @@
--- The first k dots are finished, the others are as they were.
-use Rattle.line_dots.specs.Compose.{finished}
-use Rattle.surface.specs.Dots.{top_dot}
-use Rattle.line_dots.proofs.Rest.{rest-step}
-use Rattle.lists.proofs.Tab.{tab-none, tab-step, tab-done}
+-- The first dots are finished, the others are as they were.
+use Rattle.std.proofs.Common.{◌≡◌, ℕ, ◌≤◌, get_or, take}
 use Rattle.lists.specs.Tab.{tab}
-use lib.ListN.{length, take, get_or, length-set}
-use mathlib.Core.Path.{◌≡◌, refl, ap, ◌∙◌}
-use Prim.Native.Nat.{ℕ, ◌-◌, ◌≤◌}
-use native.Mathlib.Omega.{arith}
-use borrow.Author.Rules.{rules}
+use Rattle.surface.specs.Dots.{top_dot}
 use Rattle.line_dots.proofs.dots.cover_line.Given as goal
 
-abbrev pub invariant-loop-k : goal.invariant-loop-k
-invariant-loop-k l = (l.k ≤ 640) × (length l.out ≡ 640) × (take l.k l.out ≡ tab (λ (j : ℕ). top_dot (get_or l.initial.out j 0) l.fallback) l.k) × ((j : ℕ) → l.k ≤ j → get_or l.out j 0 ≡ get_or l.initial.out j 0)
-
-abbrev pub decreases-loop-k : goal.decreases-loop-k
-decreases-loop-k l = 640 - l.k
+abbrev pub invariant-loop-dot : goal.invariant-loop-dot
+invariant-loop-dot l =
+    (take l.dot-index l.out ≡ tab (λ (j : ℕ). top_dot (get_or l.initial.out j 0) l.fallback) l.dot-index)
+    × ((j : ℕ) → l.dot-index ≤ j → get_or l.out j 0 ≡ get_or l.initial.out j 0)

@@ -6,6 +6,6 @@ use Rattle.line_sums.proofs.adler.line_sum.Goals as goal
 pub returns : goal.returns
 unfolding line_sum
 returns c =
-    let h = c.loop-i in
-    let p : length c.args.dots.now ≤ h.i = omega arith in
-    ap joined (sym (ended c.args.dots.now h.i h.s p) ∙ h.invariant.3)
+    let h = c.loop-dot in
+    let p : length c.args.dots.now ≤ h.dot-index = omega arith in
+    ap joined (sym (ended c.args.dots.now h.dot-index h.s p) ∙ h.invariant.1)

@@ -5,7 +5,6 @@ use mathlib.Core.Path.{sym, ap, ◌∙◌}
 use lib.ListN.{get_or}
 use Rattle.lists.specs.Tab.{tab}
 use Rattle.tilemap.specs.Dots.{across_of}
-use borrow.Author.Rules.{rules}
 use Rattle.line_tiles.proofs.compose.row_dots.Goals as goal
 
 pub returns-then-columns80 : goal.returns-then-columns80

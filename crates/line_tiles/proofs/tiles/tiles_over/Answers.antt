@@ -2,7 +2,6 @@
 use mathlib.Core.Path.{ap, ◌∙◌}
 use Rattle.tilemap_setup.specs.Setup.{setup_of}
 use Rattle.line_tiles.proofs.Laid.{tiles-of}
-use borrow.Author.Rules.{rules}
 use Rattle.line_tiles.proofs.tiles.tiles_over.Goals as goal
 
 pub returns : goal.returns

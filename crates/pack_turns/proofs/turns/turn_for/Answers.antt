@@ -14,7 +14,7 @@ loop-t-init c = (search rules, below_none _)
 
 pub returns-then-same_turn : goal.returns-then-same_turn
 unfolding turn_for
-returns-then-same_turn c = least-here _ 8 c.loop-t.t (omega arith) c.loop-t.invariant.1 (sym c.same_turn.ensures ∙ c.if-same_turn.true)
+returns-then-same_turn c = (least-here _ 8 c.loop-t.t (omega arith) c.loop-t.invariant.1 (sym c.same_turn.ensures ∙ c.if-same_turn.true), omega arith)
 
 pub loop-t-preserved : goal.loop-t-preserved
 loop-t-preserved c = (search rules, below_more _ _ c.loop-t.invariant.1 (sym c.same_turn.ensures ∙ c.if-same_turn.false))

@@ -1,28 +1,30 @@
--- The first i registers are read; a turn reads one more.
-use borrow.Author.Rules.{rules}
+-- The bytes that are copied are the registers one by one.
 use native.Mathlib.Omega.{arith}
-use mathlib.Core.Path.{◌≡◌, refl, ap, ◌∙◌}
-use Prim.Native.Nat.{ℕ, ◌+◌, ◌*◌, ◌≤◌, ◌-◌}
-use lib.ListN.{length, take, get_or, length-set}
-use Rattle.lists.proofs.Tab.{tab-none, tab-step, tab-done}
+use mathlib.Core.Path.{◌≡◌, sym, ap, ◌∙◌}
+use mathlib.Core.List.{List}
+use Prim.Native.Nat.{ℕ, ◌+◌, ◌-◌, ◌*◌, ◌≤◌, ◌<◌}
+use lib.ListN.{length, take, drop, get_or}
+use lib.Seq.{ext_get_or, get_or-take, get_or-drop}
+use Rattle.lists.proofs.Tab.{length-tab, get_or-tab}
+use Rattle.lists.proofs.Cuts.{cut-length}
 use Rattle.record_layout.specs.Fields.{byte, row_at}
 use Rattle.record_layout.proofs.Read.{plus-read}
 use Rattle.record_groups.proofs.rows.plus_at.Goals as goal
 
-pub loop-i-init : goal.loop-i-init
-loop-i-init c = (search rules, refl, tab-none _)
-
-pub loop-i-preserved : goal.loop-i-preserved
-loop-i-preserved c =
-    let a = c.args in
-    let h = c.loop-i in
-    let first = c.in_version-first.result in
-    let e : first + h.i ≡ first + 1 * h.i = omega arith in
-    (omega arith, simp length-set h.invariant.1, tab-step _ h.registers h.i _ (omega arith) h.invariant.2 (ap (λ (k : ℕ). get_or a.b.now k 0) e))
+cut-row : (b : List ℕ) (at n : ℕ) → at + n ≤ length b → take n (drop at b) ≡ row_at byte n b at
+cut-row b at n h =
+    let f : ℕ → ℕ = λ (i : ℕ). get_or b (at + 1 * i) 0 in
+    let e : length (take n (drop at b)) ≡ n = cut-length b at n h in
+    ext_get_or 0 (take n (drop at b)) (row_at byte n b at) (e ∙ sym (length-tab f n))
+    (λ i k.
+    let l : i < n = omega (arith, k, e) in
+    let s : at + i ≡ at + 1 * i = omega arith in
+    get_or-take n (drop at b) i 0 l ∙ get_or-drop at b i 0 ∙ ap (λ (j : ℕ). get_or b j 0) s ∙ sym (get_or-tab f n i l))
 
 pub returns : goal.returns
 returns c =
-    let h = c.loop-i in
-    let e : h.i ≡ 64 = omega arith in
-    tab-done _ h.registers 64 h.invariant.1 (rw e at h.invariant.2)
+    let first = c.in_version-first.result in
+    let h : first + 64 ≤ length c.args.b.now = omega arith in
+    let e : first + 64 - first ≡ 64 = omega arith in
+    c.copy_from_slice.ensures.after ∙ ap (λ (n : ℕ). take n (drop first c.args.b.now)) e ∙ cut-row c.args.b.now first 64 h
     ∙ ap (row_at byte 64 c.args.b.now) c.in_version-first.ensures ∙ plus-read _ _

@@ -15,4 +15,4 @@ returns-then-b-lt2 c = let b = c.args.b.now in rw (ne_eqb (length b) (2 + field_
 
 pub returns : goal.returns
 unfolding counted
-returns c = rw (c.usize_of.ensures.0, c.usize_of-2.ensures.0, c.following_of-first.ensures, c.following_of-second.ensures)
+returns c = rw (c.from.ensures, c.from-2.ensures, c.following_of-first.ensures, c.following_of-second.ensures)

@@ -4,10 +4,10 @@ use Rattle.surface.specs.Dots.{shown}
 use borrow.Author.Rules.{rules}
 use Rattle.surface.proofs.dots.show.Goals as goal
 
-pub returns-then-c-u16_of : goal.returns-then-c-u16_of
+pub returns-then-c-from : goal.returns-then-c-from
 unfolding shown
-returns-then-c-u16_of c = rw (← c.u16_of.ensures.0, eq-eqb _ _ c.if-c-u16_of.true)
+returns-then-c-from c = rw (← c.from.ensures, eq-eqb _ _ c.if-c-from.true)
 
-pub returns-else-c-u16_of : goal.returns-else-c-u16_of
+pub returns-else-c-from : goal.returns-else-c-from
 unfolding shown
-returns-else-c-u16_of c = rw (← c.u16_of.ensures.0, ne_eqb _ _ c.if-c-u16_of.false)
+returns-else-c-from c = rw (← c.from.ensures, ne_eqb _ _ c.if-c-from.false)

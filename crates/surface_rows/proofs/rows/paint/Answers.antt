@@ -1,25 +1,7 @@
--- The first i dots are painted.
-use Rattle.lists.proofs.Tab.{tab-none, tab-step, tab-done}
-use Rattle.lists.specs.Tab.{tab}
-use lib.ListN.{length, take, length-set}
-use mathlib.Core.Path.{◌≡◌, refl}
-use Prim.Native.Nat.{ℕ, ◌-◌, ◌≤◌}
-use native.Mathlib.Omega.{arith}
-use borrow.Author.Rules.{rules}
+-- A list of one value is that value in a row.
+use Rattle.std.proofs.Common.{sym, ◌∙◌, length}
+use Rattle.lists.proofs.Tab.{tab-constant}
 use Rattle.surface_rows.proofs.rows.paint.Goals as goal
 
-pub loop-i-init : goal.loop-i-init
-loop-i-init c = (search rules, refl, tab-none _)
-
-pub loop-i-smaller : goal.loop-i-smaller
-loop-i-smaller c = simp length-set (omega arith)
-
-pub loop-i-preserved : goal.loop-i-preserved
-loop-i-preserved c =
-    (simp length-set (omega arith), simp length-set (omega arith), tab-step _ _ _ _ (omega arith) c.loop-i.invariant.2 refl)
-
 pub returns : goal.returns
-returns c =
-    let h = c.loop-i in
-    let e : h.i ≡ length c.args.out.now = omega arith in
-    tab-done _ _ _ h.invariant.1 (rw e at h.invariant.2)
+returns c = c.fill.ensures.after (λ y e. e) ∙ sym (tab-constant c.args.v (length c.args.out.now))

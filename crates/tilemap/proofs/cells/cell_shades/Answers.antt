@@ -1,7 +1,6 @@
 -- `cell_shades` writes what its entry shows, which is eight shades of the row.
 use Rattle.tilemap.proofs.Rows.{cell-shades}
 use mathlib.Core.Path.{◌∙◌}
-use borrow.Author.Rules.{rules}
 use Rattle.tilemap.proofs.cells.cell_shades.Goals as goal
 
 pub returns : goal.returns

@@ -3,7 +3,6 @@ use Rattle.tilemap.specs.Shades.{shade_from}
 use Prim.Native.Nat.{◌+◌}
 use native.Mathlib.Omega.{arith}
 use mathlib.Core.Path.{refl}
-use borrow.Author.Rules.{rules}
 use Rattle.tilemap.proofs.cells.shade_from.Goals as goal
 
 pub overflow_add-result : goal.overflow_add-result

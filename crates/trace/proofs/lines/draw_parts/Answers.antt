@@ -10,10 +10,10 @@ use Rattle.trace.proofs.lines.draw_parts.Goals as goal
 pub composed_chosen-requires : goal.composed_chosen-requires
 composed_chosen-requires c =
     let a = c.args in
-    (bounds_of (state_with a.g a.ulafirst.now a.ulasecond.now a.tilefirst.now a.tilesecond.now) _ c.requires.0 c.shown_of-v.ensures, c.requires.1, c.requires.2, c.requires.3, c.requires.4)
+    (bounds_of (state_with a.g a.p.now) _ c.requires.0 c.shown_of-v.ensures, c.requires.1, c.requires.2, c.requires.3, c.requires.4)
 
 pub returns : goal.returns
 returns c =
     let a = c.args in
-    let s = state_with a.g a.ulafirst.now a.ulasecond.now a.tilefirst.now a.tilesecond.now in
+    let s = state_with a.g a.p.now in
     finished-line s _ _ _ _ _ _ c.finish_line.ensures (c.composed_chosen.ensures ∙ chosen-line a.ula.now a.tile.now a.line s _ c.shown_of-v.ensures) c.widen.ensures

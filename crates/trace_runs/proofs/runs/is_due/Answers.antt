@@ -10,7 +10,8 @@ use Rattle.trace_runs.proofs.runs.is_due.Goals as goal
 
 pub returns-then-count-entry_count : goal.returns-then-count-entry_count
 returns-then-count-entry_count c =
-    ap (λ (l : ℕ). leb l c.args.line) (c.usize_of.ensures.0 ∙ ap (λ (x : Entry). x.line) c.entry_at-e.ensures) ∙ due-by c.args.trace.now c.args.line c.args.count c.requires.1 (omega (arith, c.if-count-entry_count.true, c.entry_count.ensures))
+    ap (λ (l : ℕ). leb l c.args.line) (c.from.ensures ∙ ap (λ (x : Entry). x.line) c.entry_at-e.ensures)
+    ∙ due-by c.args.trace.now c.args.line c.args.count c.requires.1 (omega (arith, c.if-count-entry_count.true, c.entry_count.ensures))
 
 pub returns-else-count-entry_count : goal.returns-else-count-entry_count
 returns-else-count-entry_count c =

@@ -11,6 +11,3 @@ use Rattle.ula_display.proofs.rows.hires_row.Given as goal
 
 abbrev pub invariant-loop-i : goal.invariant-loop-i
 invariant-loop-i l = (l.i ≤ 32) × (length l.out ≡ 512) × (take (l.i * 16) l.out ≡ tab (hires_chosen l.p l.bit1 l.bit0 l.bank) (l.i * 16))
-
-abbrev pub decreases-loop-i : goal.decreases-loop-i
-decreases-loop-i l = 32 - l.i

@@ -5,7 +5,6 @@ use mathlib.Core.Path.{◌∙◌, ap}
 use Rattle.ula_view.proofs.Parts.{line_of}
 use native.Mathlib.Omega.{arith}
 use borrow.Author.Tests.{leb-true}
-use borrow.Author.Rules.{rules}
 use Rattle.ula_view.proofs.views.ula_line.Goals as goal
 
 pub view_of-view-requires : goal.view_of-view-requires

@@ -1,9 +1,0 @@
--- `restart` chooses by its bit.
-use borrow.Author.Tests.{ne_eqb}
-use Rattle.register_clips.proofs.restart.Goals as goal
-
-pub returns-then-bit-eq1 : goal.returns-then-bit-eq1
-returns-then-bit-eq1 c = rw c.if-bit-eq1.true
-
-pub returns-else-bit-eq1 : goal.returns-else-bit-eq1
-returns-else-bit-eq1 c = rw (ne_eqb _ _ c.if-bit-eq1.false)
