@@ -8,14 +8,18 @@ use crate::search::{first_of, free_of};
 use desk_seats::SEATS;
 use reply::Reply;
 
-// The place of the member's seat, or 21 or 23.
+// The place of the member's seat, or 21 or 23. Here and below a seat that is found has a name, so that an edit can give another: by `ok_or` no
+// edit could without one call more.
 pub fn find(desk: &[u8], member: u16) -> Result<usize, Reply>
     ensures { result ≡ place_in desk.now member }
 {
     if !well_formed(desk) {
         return Err(Reply::BadDesk);
     }
-    first_of(desk, member, SEATS).ok_or(Reply::NotOpen)
+    let Some(i) = first_of(desk, member, SEATS) else {
+        return Err(Reply::NotOpen);
+    };
+    Ok(i)
 }
 
 // The place of the first free seat for a member that has none, or 22 or 24.
@@ -26,7 +30,10 @@ fn free_for(desk: &[u8], member: u16) -> Result<usize, Reply>
     if first_of(desk, member, SEATS).is_some() {
         return Err(Reply::AlreadyOpen);
     }
-    free_of(desk).ok_or(Reply::DeskFull)
+    let Some(free) = free_of(desk) else {
+        return Err(Reply::DeskFull);
+    };
+    Ok(free)
 }
 
 // The same on any desk: 21 first.

@@ -51,8 +51,10 @@ pub fn change_record(bytes: &mut [u8], c: Change) -> Reply
     let r = read.reply;
     if r.is_done() {
         let a = apply(read.state, c);
+        // Kept here, since an answer that is asked again after it is handed on is copied.
+        let reply = a.reply;
         store(a, bytes);
-        a.reply
+        reply
     } else {
         r
     }

@@ -70,6 +70,13 @@ module _ (xs : List ℕ) (i : ℕ) (h : i < length xs) where
   pub length_so_far : length (take i xs) ≡ i
   length_so_far = length-take-le i xs (omega arith)
 
+  -- and one more of them placed
+  pub placed-more : (b : List ℕ) (at : ℕ) → at + length xs ≤ length b
+      → set (placed b at (take i xs)) (at + i) (get_or xs i 0) ≡ placed b at (take (i + 1) xs)
+  placed-more b at l =
+      let e : at + i ≡ at + length (take i xs) = omega (arith, length_so_far) in
+      rw take_more (placed_one b at (take i xs) (at + i) e (get_or xs i 0) (omega arith))
+
 -- what a buffer holds in which a part was placed
 module _ (b ys : List ℕ) (at : ℕ) (h : at + length ys ≤ length b) where
   front_length : length (take at b) ≡ at

@@ -69,7 +69,7 @@ impl Table {
     // The listed cell of a slot and the smallest turn by which it makes a cell. A slot holds 1 + a listed cell's number, or 0.
     fn slot_match(&self, cell: &[u8; 64], theirs: u32, slot: usize) -> Option<Match>
         requires { (theirs ≡ mark_of cell.now) × (Kept self.now) }
-        ensures { IfSome result (λ m. Makes self.now.pixels cell.now self.now.count m) }
+        ensures { IfSome result (λ m. (m.tile + 1 ≡ slot) × Makes self.now.pixels cell.now self.now.count m) }
     {
         let tile = slot.checked_sub(1)?;
         if self.count <= tile {

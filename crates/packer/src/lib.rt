@@ -42,10 +42,14 @@ pub fn pack(
     write(picture, allowed, offset, map, definitions).ok_or(Reply::TooManyTiles)
 }
 
-// The fewest tiles that draw a picture: the answer of `pack` with 256 allowed and buffers of the right lengths.
+// The fewest tiles that draw a picture: the answer of `pack` with 256 allowed and buffers of the right lengths. By `let .. else`, so that an edit
+// can give a picture of more tiles a count.
 pub fn fewest(picture: &[u8]) -> Result<usize, Reply>
     ensures { CountsFewest picture.now result }
 {
     judge(picture.len(), 2560, 8192, 256, 0)?;
-    count(picture, 256).ok_or(Reply::TooManyTiles)
+    let Some(n) = count(picture, 256) else {
+        return Err(Reply::TooManyTiles);
+    };
+    Ok(n)
 }

@@ -1,4 +1,6 @@
 // The picture: every line drawn first, then the head and each line's pixels twice.
+ghost use Rattle.std.specs.Prelude.{◌≡◌, length};
+
 use host::complaints::Complaints;
 use state::State;
 use std::io;
@@ -24,7 +26,9 @@ fn write_line(rt: &impl Print, dots: &[u16]) -> io::Result<()> {
     rt.write_all(&bytes)
 }
 
-fn write_picture(rt: &impl Print, dots: &[u16]) -> io::Result<()> {
+fn write_picture(rt: &impl Print, dots: &[u16]) -> io::Result<()>
+    requires { length dots.now ≡ 163840 }
+{
     rt.write_all(&picture::header())?;
     for line in dots.chunks_exact(640) {
         write_line(rt, line)?;

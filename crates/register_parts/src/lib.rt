@@ -77,9 +77,9 @@ pub fn palettes_of(s: State) -> Palettes
     }
 }
 
-// Puts the parts of a state together again, and answers with it.
-pub fn answer_with(w: Written, p: Palettes) -> Answer
-    ensures { result ≡ answer_with w p }
+// Puts the parts of a state together again, and answers with it. The palettes are lent, since handed over they would be copied once more.
+pub fn answer_with(w: Written, p: &Palettes) -> Answer
+    ensures { result ≡ answer_with w p.now }
 {
     let ula = w.registers.ula;
     let tiles = w.registers.tiles;

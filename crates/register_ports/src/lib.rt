@@ -112,7 +112,8 @@ pub fn write_at(s: State, port: u16, value: u8) -> Answer
 {
     let g = registers_of(s);
     let w = write_port_apart(g, port, value);
-    answer_with(w, palettes_of(s))
+    let p = palettes_of(s);
+    answer_with(w, &p)
 }
 
 // $FE and $BF3B are write only.

@@ -55,7 +55,7 @@ pub fn write_numbered(s: State, number: u8, value: u8) -> Answer
     let g = registers_of(s);
     let mut p = palettes_of(s);
     let w = write_apart(g, number, value, &mut p);
-    answer_with(w, p)
+    answer_with(w, &p)
 }
 
 // The read by number without the judgement of lawful. Reads move nothing.

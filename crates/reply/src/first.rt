@@ -4,9 +4,13 @@ ghost use Rattle.reply.specs.First.{first_of};
 
 use crate::Reply;
 
-// The first of two replies that refuses.
+// The first of two replies that refuses. By its case, so that an edit can name another.
+#[tactic(auto, unfolding(crate::specs::First::first_of))]
 pub fn first_of(first: Reply, next: Reply) -> Reply
     ensures { result ≡ first_of first next }
 {
-    if first.is_done() { next } else { first }
+    match first {
+        Reply::Done => next,
+        _ => first,
+    }
 }

@@ -52,14 +52,15 @@ pub fn judge_first(rt: &impl Print, bytes: &[u8], n: usize) -> io::Result<()> {
     Ok(())
 }
 
-// A file of the data folder; one that is longer than a record shows as one byte too many.
+// A file of the data folder; one that is longer than a record shows as one byte too many. Its name is written before the read, which can fail.
 pub fn print_file(rt: &(impl Print + Files), name: &str) -> io::Result<()> {
+    print!(rt; "{name}")?;
     let mut bytes = [0u8; RECORD_FILE];
     match read_file(rt, name.as_bytes(), &mut bytes)? {
         Some(n) => {
-            print!(rt; "{name} ")?;
+            print!(rt; " ")?;
             judge_first(rt, &bytes, n)
         }
-        None => println!(rt; "{name} missing"),
+        None => println!(rt; " missing"),
     }
 }

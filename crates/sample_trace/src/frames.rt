@@ -7,7 +7,9 @@ use std::io;
 use surface::LineNumber;
 
 // The line asked for alone has the same reply, place and dots.
-fn same_line(line: usize, s: State, trace: &[u8], dots: &[u16], n: u8, place: u16) -> bool {
+fn same_line(line: usize, s: State, trace: &[u8], dots: &[u16], n: u8, place: u16) -> bool
+    requires { length dots.now ≡ 640 }
+{
     let bank = [0u8; 16384];
     let mut alone = [65535u16; 640];
     let got = trace::draw_traced(LineNumber(line), &bank, &bank, s, trace, &mut alone);
@@ -30,14 +32,18 @@ fn same_lines(s: State, trace: &[u8], dots: &[u16], replies: &[u8], places: &[u1
 }
 
 // The line drawn without a trace has the same dots.
-fn same_plain(line: usize, dots: &[u16]) -> bool {
+fn same_plain(line: usize, dots: &[u16]) -> bool
+    requires { length dots.now ≡ 640 }
+{
     let bank = [0u8; 16384];
     let mut plain = [65535u16; 640];
     line::draw(LineNumber(line), &bank, &bank, screen(), &mut plain);
     plain.as_slice() == dots
 }
 
-fn all_plain(dots: &[u16]) -> bool {
+fn all_plain(dots: &[u16]) -> bool
+    requires { length dots.now ≡ 163840 }
+{
     for (line, these) in dots.chunks_exact(640).enumerate() {
         if !same_plain(line, these) {
             return false;

@@ -35,7 +35,7 @@ fn draw_lines(
     let mut run = begin(s);
     let mut count = 0;
     for line in 0..256 {
-        run = try_due(trace, &mut count, line, run, &mut p);
+        try_due(trace, &mut count, line, &mut run, &mut p);
         let a = line * 640;
         let e = a + 640;
         let r = draw_run(run, &p, ula, tile, LineNumber(line), &mut dots[a..e]);

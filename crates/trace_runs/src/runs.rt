@@ -106,25 +106,17 @@ pub fn try_next(trace: &[u8], i: usize, run: Carried, p: &mut Palettes) -> Carri
     try_entry(e, i as u16, run, p)
 }
 
-// Tries the entries from `count` on that are stamped with the line or less, and moves `count` past them. Asks for a trace that is judged, and
-// for a place that no line before has passed over.
-pub fn try_due(
-    trace: &[u8],
-    count: &mut usize,
-    line: usize,
-    begun: Carried,
-    p: &mut Palettes,
-) -> Carried
+// Tries the entries from `count` on that are stamped with the line or less, and moves `count` past them. The run is lent, so that nothing of it
+// moves where none is due. Asks for a trace that is judged, and for a place that no line before has passed over.
+pub fn try_due(trace: &[u8], count: &mut usize, line: usize, run: &mut Carried, p: &mut Palettes)
     requires { (Sound trace.now) × (count.old ≤ reach trace.now line) }
     ensures { (count.new ≡ reach trace.now line)
-        × ((r : Run) → run_with begun p.old ≡ first trace.now count.old r → run_with result p.new ≡ first trace.now (reach trace.now line) r) }
+        × ((r : Run) → run_with run.old p.old ≡ first trace.now count.old r → run_with run.new p.new ≡ first trace.now (reach trace.now line) r) }
 {
-    let mut run = begun;
     while is_due(trace, *count, line) {
-        run = try_next(trace, *count, run, p);
+        *run = try_next(trace, *count, *run, p);
         *count += 1;
     }
-    run
 }
 
 // The run after every entry stamped with the line or less. Asks for a trace that is judged.
@@ -133,5 +125,7 @@ pub fn after_line(trace: &[u8], line: usize, begun: Carried, p: &mut Palettes) -
     ensures { run_with result p.new ≡ first trace.now (reach trace.now line) (run_with begun p.old) }
 {
     let mut count = 0;
-    try_due(trace, &mut count, line, begun, p)
+    let mut run = begun;
+    try_due(trace, &mut count, line, &mut run, p);
+    run
 }

@@ -3,7 +3,7 @@ use Rattle.reply.specs.Reply.{reply_number}
 use Rattle.pack_rule.proofs.Answers.{good}
 use Rattle.packer.proofs.Answers.{early-fewest, counts-fewest}
 use native.Mathlib.Omega.{arith}
-use Rattle.std.specs.Prelude.{Err}
+use Rattle.std.specs.Prelude.{Err, Some, None}
 use mathlib.Core.Path.{◌≡◌, ap}
 use borrow.Author.Rules.{rules}
 use Rattle.packer.proofs.fewest.Goals as goal
@@ -19,7 +19,8 @@ count-requires c =
     let g = good _ 2560 8192 256 0 (ap reply_number c.in_ok-judge.ensures) in
     (g.pic-length, omega arith)
 
+pub returns-in_default : goal.returns-in_default
+returns-in_default c = counts-fewest c.args.picture.now (λ i. omega (arith, c.type_inv.picture i)) c.in_ok-judge.ensures None c.in_default.ensures
+
 pub returns : goal.returns
-returns c =
-    rw c.ok_or.ensures.value
-    (counts-fewest c.args.picture.now (λ i. omega (arith, c.type_inv.picture i)) c.in_ok-judge.ensures _ c.count.ensures)
+returns c = counts-fewest c.args.picture.now (λ i. omega (arith, c.type_inv.picture i)) c.in_ok-judge.ensures (Some c.in-Some.n) c.in-Some.ensures

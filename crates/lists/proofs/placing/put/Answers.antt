@@ -1,10 +1,18 @@
--- What is put is as long as the part that it is put into.
-use Rattle.std.proofs.Common.{ap, sym, ◌∙◌, ◌≡◌, ◌+◌, ◌-◌, length, arith, refl, rules}
-use Rattle.lists.proofs.Placed.{placed-lent}
+-- The first i bytes are placed; a turn places one more.
+use Rattle.std.proofs.Common.{ap, ◌∙◌, arith, rules}
+use lib.Seq.{take_all}
+use Rattle.lists.specs.Placed.{placed}
+use Rattle.lists.proofs.Placed.{placed-none, placed-more}
 use Rattle.lists.proofs.placing.put.Goals as goal
 
-pub returns : goal.returns
-returns c =
+pub loop-i-init : goal.loop-i-init
+loop-i-init c = placed-none _ _
+
+pub loop-i-preserved : goal.loop-i-preserved
+loop-i-preserved c =
     let a = c.args in
-    let n : length a.src.now ≡ a.at + length a.src.now - a.at = omega arith in
-    rw c.copy_from_slice.ensures.after (placed-lent a.target.now a.src.now a.at _ n)
+    let h = c.loop-i in
+    rw h.invariant (placed-more a.src.now h.i (omega arith) a.target.now a.at (omega arith))
+
+pub returns : goal.returns
+returns c = c.loop-i.invariant ∙ ap (placed _ _) (take_all _ _ (omega arith))

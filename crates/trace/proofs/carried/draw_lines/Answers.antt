@@ -18,15 +18,15 @@ loop-line-init c =
     let p = c.requires in
     (zero-le, begins c.args.s _ _ c.begin-run.ensures c.palettes_of-p.ensures ∙ first-none _ _, fill_none _ _ _ _ _ _ _ p.4 p.5 p.6)
 
-pub try_due-run-requires : goal.try_due-run-requires
-try_due-run-requires c = (c.requires.0, c.loop-line.invariant.0)
+pub try_due-requires : goal.try_due-requires
+try_due-requires c = (c.requires.0, c.loop-line.invariant.0)
 
 pub draw_run-r-requires : goal.draw_run-r-requires
 draw_run-r-requires c =
     let h = c.loop-line in
     let t = c.args.trace.now in
     let s = c.args.s in
-    let same = run_after s t h.line _ c.requires.0.rise (c.try_due-run.ensures.1 (begun s) h.invariant.1) in
+    let same = run_after s t h.line _ c.requires.0.rise (c.try_due.ensures.1 (begun s) h.invariant.1) in
     let w = c.loop-line-test.true in
     (run_lawful s t h.line _ c.requires.0 c.requires.1 (argument-typed s c.well_formed.1.1.0) same, le-leb h.line 255 (omega (arith, w)), c.requires.2, c.requires.3, simp (length-take, length-drop) (omega (arith, h.invariant.2.dots_long, w)))
 
@@ -35,7 +35,7 @@ loop-line-preserved c =
     let h = c.loop-line in
     let t = c.args.trace.now in
     let s = c.args.s in
-    let x = c.try_due-run.ensures in
+    let x = c.try_due.ensures in
     let same = run_after s t h.line _ c.requires.0.rise (x.1 (begun s) h.invariant.1) in
     let e = c.draw_run-r.ensures in
     let w = c.loop-line-test.true in

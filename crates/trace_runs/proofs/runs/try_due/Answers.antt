@@ -15,8 +15,8 @@ loop-p-init c = (c.requires.1, λ r e. e)
 pub is_due-requires : goal.is_due-requires
 is_due-requires c = (c.requires.0.long, c.loop-p.invariant.0)
 
-pub try_next-run-requires : goal.try_next-run-requires
-try_next-run-requires c =
+pub try_next-requires : goal.try_next-requires
+try_next-requires c =
     let t = c.args.trace.now in
     let l = ltb-true c.loop-p.count (reach t c.args.line) (sym c.is_due.ensures ∙ c.loop-p-test.true) in
     (c.requires.0.short, omega (arith, l, reach-within t c.args.line))
@@ -35,7 +35,7 @@ loop-p-preserved c =
     let h = c.loop-p in
     let t = c.args.trace.now in
     let l = ltb-true h.count (reach t c.args.line) (sym c.is_due.ensures ∙ c.loop-p-test.true) in
-    (omega (arith, l), λ r e. c.try_next-run.ensures ∙ ap (tried (entry_at t h.count) h.count) (h.invariant.1 r e) ∙ sym (first_more t h.count r))
+    (omega (arith, l), λ r e. c.try_next.ensures ∙ ap (tried (entry_at t h.count) h.count) (h.invariant.1 r e) ∙ sym (first_more t h.count r))
 
 pub returns : goal.returns
 returns c =

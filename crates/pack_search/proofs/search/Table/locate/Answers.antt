@@ -13,7 +13,7 @@ returns-then-latest-eq0 c =
     made-by-none t.pixels t.slots t.count a.cell.now c.requires.slotted c.mark-theirs.result c.mark-theirs.ensures (omega (arith, c.from-latest.ensures, c.if-latest-eq0.true))
 
 pub returns-in-Some : goal.returns-in-Some
-returns-in-Some c = let t = c.args.self.now in found-by t.pixels t.slots t.count c.args.cell.now c.requires.slotted _ c.in-Some.ensures
+returns-in-Some c = let t = c.args.self.now in found-by t.pixels t.slots t.count c.args.cell.now c.requires.slotted _ c.in-Some.ensures.1
 
 pub returns-in-Some-slot_match : goal.returns-in-Some-slot_match
-returns-in-Some-slot_match c = let t = c.args.self.now in found-by t.pixels t.slots t.count c.args.cell.now c.requires.slotted _ c.in-Some-slot_match.ensures
+returns-in-Some-slot_match c = let t = c.args.self.now in found-by t.pixels t.slots t.count c.args.cell.now c.requires.slotted _ c.in-Some-slot_match.ensures.1
