@@ -32,9 +32,9 @@ module _ (d : List ℕ) (m : ℕ) where
   abbrev of_member : ℕ → Bool
   of_member i = sits m (seat_at d i)
 
-  pub find-good : (o : Option ℕ) (r : Result ℕ Reply) → well_formed d ≡ true → o ≡ first_below of_member seats → r ≡ ok_or o NotOpen → r ≡ place_in d m
+  pub find-good : (o : Option ℕ) → well_formed d ≡ true → o ≡ first_below of_member seats → ok_or o NotOpen ≡ place_in d m
   unfolding place_in place_of
-  find-good o r w e f = rw (f, e, w) (found_or of_member seats NotOpen)
+  find-good o w e = rw (e, w) (found_or of_member seats NotOpen)
 
   pub find-bad : well_formed d ≡ false → Err BadDesk ≡ place_in d m
   unfolding place_in
@@ -85,12 +85,12 @@ module _ (d : List ℕ) (m : ℕ) where
   unfolding free_for place_of
   free-seated o b e f t = let h : is_seated d m ≡ true = sym (found-some (of_member d m) seats) ∙ sym (f ∙ ap is_some e) ∙ t in rw h
 
-  pub free-found : (o f : Option ℕ) (b : Bool) (r : Result ℕ Reply) → o ≡ first_below (of_member d m) seats → b ≡ is_some o → b ≡ false
-      → f ≡ first_below (λ i. not (is_held (seat_at d i))) seats → r ≡ ok_or f DeskFull → r ≡ free_for d m
+  pub free-found : (o f : Option ℕ) (b : Bool) → o ≡ first_below (of_member d m) seats → b ≡ is_some o → b ≡ false
+      → f ≡ first_below (λ i. not (is_held (seat_at d i))) seats → ok_or f DeskFull ≡ free_for d m
   unfolding free_for place_of free_of
-  free-found o f b r e g t h k =
+  free-found o f b e g t h =
       let n : is_seated d m ≡ false = sym (found-some (of_member d m) seats) ∙ sym (g ∙ ap is_some e) ∙ t in
-      rw (n, room-free d, k, h) (found_or (λ i. not (is_held (seat_at d i))) seats DeskFull)
+      rw (n, room-free d, h) (found_or (λ i. not (is_held (seat_at d i))) seats DeskFull)
 
   pub open-formed : (r : Result ℕ Reply) → well_formed d ≡ true → r ≡ free_for d m → r ≡ free_in d m
   unfolding free_in
